@@ -13,10 +13,10 @@ use lib.Count.{ones}
 use lib.ListN.{length, getD, drop, length-take, length-drop, List·getD-eq-default}
 use lib.Seq.{ext-getD, getD-take, getD-drop}
 use Rattle.sets.specs.Tests.{Is, both, below}
-use Rattle.sets.specs.Sets.{Set, count}
+use Rattle.sets.specs.Sets.{Set, within, count}
 use Rattle.sets.specs.Words.{bit, has, wordOf, wordsOf, row, Words}
 use Rattle.sets.proofs.Tests.{not-both-ways, both-r, below-true, below-false, below-iff, compare}
-use Rattle.sets.proofs.Sets.{count-same, count-add}
+use Rattle.sets.proofs.Sets.{within-same, count-same, count-add}
 use Rattle.sets.proofs.Bits.{bit-of-zero, word-ext, bit-word-of, word-of-lt, ones-count}
 
 -- ---- a set's members, word by word
@@ -108,6 +108,13 @@ has-made k ws X e f l = ap (λ (l : List ℕ). has l f) e ∙ has-of k X f l
 
 pub made-has : (k : ℕ) (ws : List ℕ) (X : Set) → ws ≡ wordsOf k X → (f : ℕ) → Is (has ws f) → Is (X f)
 made-has k ws X e f h = both-r (below f (k * 64)) (X f) (sym (has-words-of k X f) ∙ ap (λ (l : List ℕ). has l f) (sym e) ∙ h)
+
+-- a question asked of words is asked of the sets that they were made of
+pub within-made : (k : ℕ) (a b : List ℕ) (X Y : Set) → a ≡ wordsOf k X → b ≡ wordsOf k Y → within (k * 64) (has a) (has b) ≡ within (k * 64) X Y
+within-made k a b X Y d e = within-same (k * 64) (has a) (has b) X Y (has-made k a X d) (has-made k b Y e)
+
+pub within-made-l : (k : ℕ) (a : List ℕ) (X Y : Set) → a ≡ wordsOf k X → within (k * 64) (has a) Y ≡ within (k * 64) X Y
+within-made-l k a X Y d = within-same (k * 64) (has a) Y X Y (has-made k a X d) (λ f l. refl)
 
 -- words are those of their own members
 pub words-of-has : (ws : List ℕ) → Words ws → wordsOf (length ws) (has ws) ≡ ws

@@ -1,0 +1,39 @@
+// Writing a line of the output.
+use libc::STDOUT_FILENO;
+use task::Verdict;
+
+// Writes a few bytes.
+pub fn say(text: &[u8]) {
+    io::write_all(STDOUT_FILENO, text);
+}
+
+// Writes a blank and a number.
+pub fn tell(n: u64) {
+    say(b" ");
+    io::print_decimal(STDOUT_FILENO, n);
+}
+
+// Writes a blank and each word.
+pub fn tell_all(words: &[u64]) {
+    let mut i = 0;
+    while i < words.len() {
+        tell(words[i]);
+        i += 1;
+    }
+}
+
+// Writes what a check answered: nothing, or the refusal's number and place.
+pub fn answer(verdict: Verdict) {
+    match verdict {
+        Verdict::Fine => say(b": fine"),
+        Verdict::Refused(number, place) => {
+            say(b": refused");
+            tell(number as u64);
+            tell(place as u64);
+        }
+    }
+}
+
+pub fn end() {
+    say(b"\n");
+}
