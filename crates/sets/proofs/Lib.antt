@@ -5,3 +5,4 @@ pub mod Words
 pub mod Loops
 pub mod Methods
 pub mod Listing
+pub mod Examples

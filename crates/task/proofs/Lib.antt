@@ -4,3 +4,4 @@ pub mod Checking
 pub mod HandingOut
 pub mod Walks
 pub mod Tables
+pub mod Examples
