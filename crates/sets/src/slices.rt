@@ -15,14 +15,14 @@ fn word(words: &[u64], i: usize) -> u64
 
 // Where the row of that number starts in a table of so many words, or the table's end if it starts
 // past that.
-fn row_start(length: usize, number: usize, width: usize) -> usize
-    ensures { λ r. ⌜ r ≡ min (number * width) length ⌝ }
+fn row_start(words: usize, number: usize, width: usize) -> usize
+    ensures { λ r. ⌜ r ≡ min (number * width) words ⌝ }
 {
     if width == 0 {
         return 0;
     }
-    if length / width < number {
-        return length;
+    if words / width < number {
+        return words;
     }
     number * width
 }
