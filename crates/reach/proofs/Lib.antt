@@ -1,0 +1,4 @@
+pub mod Least
+pub mod Ways
+pub mod Passes
+pub mod Answers

@@ -1,0 +1,4 @@
+pub mod Least
+pub mod Reach
+pub mod Answer
+pub mod Rows

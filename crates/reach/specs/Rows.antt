@@ -1,0 +1,36 @@
+-- What the private workers' contracts speak of: a task read out of two tables of rows, what one step adds to a pass, and what they ask of the rows.
+use Prim.Native.Nat.{ℕ, _≤_, _<_}
+use mathlib.Core.List.{List}
+use Rattle.sets.specs.Tests.{Is, no, both}
+use Rattle.sets.specs.Sets.{Set, none, within}
+use Rattle.sets.specs.Words.{has, row}
+use Rattle.task.specs.Task.{Task}
+
+-- the task that the passes look at: rows of needs and sets, the steps that are off, and what holds at first
+abbrev pub rowsTask : ℕ → ℕ → List ℕ → List ℕ → Set → Set → Task
+rowsTask facts steps needs sets off start = record {
+  facts = facts;
+  steps = steps;
+  needs = λ s. has (row 4 s needs);
+  sets = λ s. has (row 4 s sets);
+  clears = λ s. none;
+  cost = λ s. 0;
+  start = start;
+  goal = none;
+  on = λ s. no (off s);
+}
+
+-- what step s adds to a pass where X held when it began: what it sets, if it is not off and all its needs held
+unfoldable pub addedBy : List ℕ → List ℕ → Set → Set → ℕ → Set
+addedBy needs sets off X s f = both (both (no (off s)) (within 256 (has (row 4 s needs)) X)) (has (row 4 s sets) f)
+
+-- the rows of the table hold only facts below n
+abbrev pub RowsBelow : ℕ → List ℕ → Type 0
+RowsBelow n table = (s f : ℕ) → Is (has (row 4 s table) f) → f < n
+
+-- there is room for n facts, and neither a row nor what holds at first has a fact past them
+pub record Bounded (n : ℕ) (needs sets : List ℕ) (start : Set) : Type 0 where
+  pub few : n ≤ 256
+  pub needs-below : RowsBelow n needs
+  pub sets-below : RowsBelow n sets
+  pub start-below : (f : ℕ) → Is (start f) → f < n
