@@ -2,6 +2,7 @@ pub mod Tests
 pub mod Sets
 pub mod Bits
 pub mod Words
+pub mod Rows
 pub mod Loops
 pub mod Methods
 pub mod Listing

@@ -16,7 +16,7 @@ use lib.ListN.{length, getD, set, length-set, replicate}
 use lib.Seq.{getD-set-same, getD-set-other}
 use Rattle.sets.specs.Tests.{no, both, either, same}
 use Rattle.sets.specs.Sets.{Set, none, added, dropped, within, count, lowest}
-use Rattle.sets.specs.Words.{bit, has, wordsOf}
+use Rattle.sets.specs.Words.{bit, has, wordsOf, withRow}
 use Rattle.sets.proofs.Tests.{tell, same-at, same-not, same-iff}
 use Rattle.sets.proofs.Sets.{added-other, dropped-other}
 use Rattle.sets.proofs.Bits.{bit-of-zero, bit-or, bit-less, bit-pow}
@@ -35,6 +35,9 @@ room ws n m e t = ap (λ (k : ℕ). k * 64) e ∙ eqb→eq (n * 64) m t
 -- what a loop ensures over the words' length holds of that length as a numeral
 pub as-many : (r ws : List ℕ) (n : ℕ) (X : Set) → length ws ≡ n → r ≡ wordsOf (length ws) X → r ≡ wordsOf n X
 as-many r ws n X e q = q ∙ ap (λ (k : ℕ). wordsOf k X) e
+
+pub as-wide : (r t ws : List ℕ) (i n : ℕ) → length ws ≡ n → r ≡ withRow (length ws) i ws t → r ≡ withRow n i ws t
+as-wide r t ws i n e q = q ∙ ap (λ (k : ℕ). withRow k i ws t) e
 
 pub within-room : (r : Bool) (ws : List ℕ) (n m : ℕ) (X Y : Set) → length ws ≡ n → T (eqb (n * 64) m)
     → r ≡ within (length ws * 64) X Y → r ≡ within m X Y
@@ -134,4 +137,4 @@ module _ (ws : List ℕ) (f n m : ℕ) (e : length ws ≡ n) (t : T (eqb (n * 64
       (λ g d. dropped-other (has ws) f g d)
 
 -- what every need of the methods is found from
-pub ruleset words = (needs, short, as-many, within-room, count-room, lowest-room, no-members, has-none, has-bit, with-none, without-none, with-bit, without-bit)
+pub ruleset words = (needs, short, as-many, as-wide, within-room, count-room, lowest-room, no-members, has-none, has-bit, with-none, without-none, with-bit, without-bit)

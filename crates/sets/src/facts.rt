@@ -2,7 +2,7 @@
 use crate::slices;
 ghost use mathlib.Core.Path.{_≡_};
 ghost use Rattle.sets.specs.Sets.{none, upTo, added, dropped, joined, met, removed, within, count, lowest};
-ghost use Rattle.sets.specs.Words.{has, wordsOf, row};
+ghost use Rattle.sets.specs.Words.{has, wordsOf, row, withRow};
 
 // Facts: those numbers below 256 whose bits are 1.
 pub struct Facts {
@@ -42,6 +42,15 @@ impl Facts {
         let mut words = [0; Facts::WORDS];
         slices::copy_row(table, number, &mut words);
         Facts { words }
+    }
+
+    // Makes the set the row of that number of a table of such sets; the table stays as it was where it
+    // has no such row.
+    pub fn put_row(self, table: &mut [u64], number: usize)
+        ensures { λ _. ⌜ now (table .exit) ≡ withRow 4 number (self .words) (now (table .entry)) ⌝ }
+    {
+        let words = self.words;
+        slices::write_row(&words, table, number);
     }
 
     // Whether f is a member.

@@ -4,7 +4,7 @@ ghost use mathlib.Core.Path.{_≡_};
 ghost use Prim.Native.Nat.{_*_, _≤_, min};
 ghost use lib.ListN.{length, getD};
 ghost use Rattle.sets.specs.Sets.{upTo, joined, met, removed, within, count, lowest};
-ghost use Rattle.sets.specs.Words.{has, wordsOf, row};
+ghost use Rattle.sets.specs.Words.{has, wordsOf, row, withRow};
 
 // Word i of the slice.
 fn word(words: &[u64], i: usize) -> u64
@@ -54,6 +54,21 @@ pub(crate) fn copy_row(table: &[u64], number: usize, words: &mut [u64])
     let mut i: usize = 0;
     while i < words.len() {
         words[i] = word(rest, i);
+        i += 1;
+    }
+}
+
+// Writes the words as the row of that number of a table of such rows, if the table has it.
+pub(crate) fn write_row(words: &[u64], table: &mut [u64], number: usize)
+    ensures { λ _. ⌜ now (table .exit) ≡ withRow (length (now (words .entry))) number (now (words .entry)) (now (table .entry)) ⌝ }
+{
+    let start = row_start(table.len(), number, words.len());
+    if table.len() - start < words.len() {
+        return;
+    }
+    let mut i: usize = 0;
+    while i < words.len() {
+        table[start + i] = words[i];
         i += 1;
     }
 }
