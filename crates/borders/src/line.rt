@@ -1,5 +1,6 @@
 // Writing a line of the output.
 use libc::STDOUT_FILENO;
+use sets::Facts;
 use task::Verdict;
 
 // Writes a few bytes.
@@ -19,6 +20,19 @@ pub fn tell_all(words: &[u64]) {
     while i < words.len() {
         tell(words[i]);
         i += 1;
+    }
+}
+
+// Writes a blank and each member of a set, lowest first.
+pub fn tell_set(set: Facts) {
+    let mut left = set;
+    loop {
+        let f = left.lowest();
+        if f == Facts::ROOM {
+            return;
+        }
+        tell(f as u64);
+        left = left.without(f);
     }
 }
 

@@ -1,6 +1,7 @@
 // Prints what the library answers at the borders that document 01 names, a line for each case. The
 // expected lines, in the file stdout, were worked out from document 01.
 mod cases;
+mod journeys;
 mod line;
 
 // The first number, both sides of each word's border, the last, and one past the last.
@@ -101,4 +102,8 @@ fn main() {
     sizes();
     order();
     rows();
+    journeys::first_reach();
+    journeys::first_walks();
+    journeys::one_step_walks();
+    journeys::chain();
 }

@@ -1,6 +1,6 @@
 -- Listing a set lowest first visits each member once, in order: by induction on the bound, where the list of the members below n + 1 ends in n or not.
 -- So a loop that takes the lowest member out until none is left goes through `members` from its first to its last.
-use Prim.Native.Nat.{ℕ, zero, suc, _<_}
+use Prim.Native.Nat.{ℕ, zero, suc, _*_, _<_}
 use mathlib.Core.Path.{_≡_, refl, sym, ap, _∙_}
 use mathlib.Core.Bool.{false}
 use mathlib.Core.Logic.{inl, inr, _↔_}
@@ -11,7 +11,9 @@ use lib.ListN.{length, length-append}
 use Rattle.sets.specs.Tests.{Is}
 use Rattle.sets.specs.Sets.{Set, dropped, one, count, lowest, members}
 use Rattle.sets.proofs.Tests.{tell, pick-true, pick-false}
-use Rattle.sets.proofs.Sets.{last, dropped-itself, dropped-other, lowest-is}
+use Rattle.sets.specs.Words.{has, wordsOf}
+use Rattle.sets.proofs.Sets.{last, dropped-itself, dropped-other, count-same, count-dropped, lowest-is}
+use Rattle.sets.proofs.Words.{has-made}
 
 -- one number further
 members-more : (n : ℕ) (X : Set) → Is (X n) → members (suc n) X ≡ members n X ++ (n ∷ [])
@@ -55,6 +57,23 @@ listing-next n X l = members-first n X (lowest n X) l (lowest-is n X .least) (lo
 
 pub listing-end : (n : ℕ) (X : Set) → lowest n X ≡ n → members n X ≡ []
 listing-end n X e = members-none n X (λ f l. lowest-is n X .least f (omega arith))
+
+-- ---- a turn of a loop that takes the lowest member out: the number is a member, and one fewer is left
+
+module _ (k : ℕ) (a b : List ℕ) (f : ℕ) (found : f ≡ lowest (k * 64) (has a)) (some : ¬ (f ≡ k * 64)) where
+  pub listing-below : f < k * 64
+  listing-below = omega (arith, lowest-is (k * 64) (has a) .most)
+
+  pub listing-member : Is (has a f)
+  listing-member = rw found (lowest-is (k * 64) (has a) .member (rw found at listing-below))
+
+  pub listing-less : b ≡ wordsOf k (dropped (has a) f) → count (k * 64) (has b) < count (k * 64) (has a)
+  listing-less rest =
+      omega (
+        arith,
+        count-same (k * 64) (has b) (dropped (has a) f) (has-made k b (dropped (has a) f) rest),
+        count-dropped (k * 64) (has a) f listing-below listing-member,
+      )
 
 -- ---- which numbers are listed, and how many
 
