@@ -22,7 +22,7 @@ use Rattle.task.proofs.Checking.{Checked, checked}
 use Rattle.reach.specs.declared.Reached.{Reached}
 use Rattle.reach.specs.Reach.{made, closure, reach, passes, without}
 use Rattle.reach.specs.Answer.{reachedBy, reachedOf}
-use Rattle.reach.specs.Rows.{rowsTask, Bounded}
+use Rattle.task.specs.Rows.{rowsTask, Bounded}
 
 -- the rows without the steps that are off are the task without them, its clears, costs and goal apart
 pub rows-without : (t : Tables) (off : Set)

@@ -24,7 +24,8 @@ use Rattle.task.specs.Walks.{possible}
 use Rattle.reach.specs.Least.{held, pass, quiet, repeated, least}
 use Rattle.reach.specs.Reach.{made, closure, reach, passes}
 use Rattle.reach.specs.Answer.{reachedBy}
-use Rattle.reach.specs.Rows.{rowsTask, addedBy, RowsBelow, Bounded}
+use Rattle.task.specs.Rows.{rowsTask, RowsBelow, Bounded}
+use Rattle.reach.specs.OneStep.{addedBy}
 use Rattle.reach.proofs.Least.{Rising, held-is, held-in, held-out, held-same, pass-more, least-passes}
 use Rattle.reach.proofs.Ways.{made-at, made-rising}
 

@@ -1,4 +1,4 @@
 pub mod Least
 pub mod Reach
 pub mod Answer
-pub mod Rows
+pub mod OneStep

@@ -13,7 +13,8 @@ ghost use Rattle.sets.specs.Words.{has, wordsOf};
 ghost use Rattle.task.specs.Tables.{tables};
 ghost use Rattle.reach.specs.Reach.{made};
 ghost use Rattle.reach.specs.Answer.{reachedBy, reachedOf};
-ghost use Rattle.reach.specs.Rows.{rowsTask, addedBy, RowsBelow, Bounded};
+ghost use Rattle.task.specs.Rows.{rowsTask, RowsBelow, Bounded};
+ghost use Rattle.reach.specs.OneStep.{addedBy};
 
 // The facts within reach, and the number of passes that found them, the last one counted.
 pub struct Reached {

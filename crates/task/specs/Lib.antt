@@ -5,3 +5,4 @@ pub mod Tables
 pub mod Verdict
 pub mod Check
 pub mod Row
+pub mod Rows

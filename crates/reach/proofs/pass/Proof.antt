@@ -5,7 +5,7 @@ use borrow.Author.Needs.{needs}
 use Rattle.sets.specs.Sets.{joined}
 use Rattle.sets.specs.Words.{has, wordsOf}
 use Rattle.reach.specs.Reach.{made}
-use Rattle.reach.specs.Rows.{rowsTask}
+use Rattle.task.specs.Rows.{rowsTask}
 use Rattle.reach.proofs.Passes.{pass-start, pass-next, pass-end}
 use Rattle.reach.proofs.pass.Statement.{statement}
 use Rattle.reach.proofs.pass.Tie as tie

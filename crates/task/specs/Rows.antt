@@ -1,12 +1,12 @@
--- What the private workers' contracts speak of: a task read out of two tables of rows, what one step adds to a pass, and what they ask of the rows.
+-- What workers that take part of a task's tables speak of: the task that those rows stand for, and what they ask of the rows.
 use Prim.Native.Nat.{ℕ, _≤_, _<_}
 use mathlib.Core.List.{List}
-use Rattle.sets.specs.Tests.{Is, no, both}
-use Rattle.sets.specs.Sets.{Set, none, within}
+use Rattle.sets.specs.Tests.{Is, no}
+use Rattle.sets.specs.Sets.{Set, none}
 use Rattle.sets.specs.Words.{has, row}
 use Rattle.task.specs.Task.{Task}
 
--- the task that the passes look at: rows of needs and sets, the steps that are off, and what holds at first
+-- rows of needs and sets, the steps that are off, and what holds at first: all that reach, must rows and distances look at
 abbrev pub rowsTask : ℕ → ℕ → List ℕ → List ℕ → Set → Set → Task
 rowsTask facts steps needs sets off start = record {
   facts = facts;
@@ -19,10 +19,6 @@ rowsTask facts steps needs sets off start = record {
   goal = none;
   on = λ s. no (off s);
 }
-
--- what step s adds to a pass where X held when it began: what it sets, if it is not off and all its needs held
-unfoldable pub addedBy : List ℕ → List ℕ → Set → Set → ℕ → Set
-addedBy needs sets off X s f = both (both (no (off s)) (within 256 (has (row 4 s needs)) X)) (has (row 4 s sets) f)
 
 -- the rows of the table hold only facts below n
 abbrev pub RowsBelow : ℕ → List ℕ → Type 0

@@ -1,0 +1,9 @@
+pub mod Extremes
+pub mod Lists
+pub mod Equation
+pub mod Members
+pub mod Relaxing
+pub mod Answering
+pub mod Derivations
+pub mod Ways
+pub mod Examples

@@ -1,0 +1,4 @@
+pub mod Distance
+pub mod Derivations
+pub mod Relaxing
+pub mod Answer
