@@ -23,6 +23,15 @@ pub fn tell_all(words: &[u64]) {
     }
 }
 
+// Writes a blank and each number.
+pub fn tell_numbers(numbers: &[u32]) {
+    let mut i = 0;
+    while i < numbers.len() {
+        tell(numbers[i] as u64);
+        i += 1;
+    }
+}
+
 // Writes a blank and each member of a set, lowest first.
 pub fn tell_set(set: Facts) {
     let mut left = set;

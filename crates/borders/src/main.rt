@@ -3,6 +3,7 @@
 mod cases;
 mod journeys;
 mod line;
+mod measures;
 
 // The first number, both sides of each word's border, the last, and one past the last.
 fn facts() {
@@ -106,4 +107,5 @@ fn main() {
     journeys::first_walks();
     journeys::one_step_walks();
     journeys::chain();
+    measures::distances();
 }
