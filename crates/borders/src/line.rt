@@ -1,6 +1,7 @@
 // Writing a line of the output.
 use libc::STDOUT_FILENO;
 use sets::Facts;
+use sets::Steps;
 use task::Verdict;
 
 // Writes a few bytes.
@@ -42,6 +43,19 @@ pub fn tell_set(set: Facts) {
         }
         tell(f as u64);
         left = left.without(f);
+    }
+}
+
+// Writes a blank and each member of a set of steps, lowest first.
+pub fn tell_steps(set: Steps) {
+    let mut left = set;
+    loop {
+        let s = left.lowest();
+        if s == Steps::ROOM {
+            return;
+        }
+        tell(s as u64);
+        left = left.without(s);
     }
 }
 

@@ -2,6 +2,7 @@
 // expected lines, in the file stdout, were worked out from document 01.
 mod cases;
 mod journeys;
+mod landmarks;
 mod line;
 mod measures;
 
@@ -108,4 +109,6 @@ fn main() {
     journeys::one_step_walks();
     journeys::chain();
     measures::distances();
+    landmarks::must_pass();
+    landmarks::rows();
 }

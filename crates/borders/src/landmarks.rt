@@ -1,0 +1,138 @@
+// What no way does without, in document 01's examples P1 to P10, a line a case.
+use crate::line;
+use task::Task;
+
+// Document 01's first task, by step: what it needs and what it sets.
+const NEEDS: [u64; 20] = [0, 0, 0, 0, 1, 0, 0, 0, 1, 0, 0, 0, 1, 0, 0, 0, 12, 0, 0, 0];
+
+const SETS: [u64; 20] = [1, 0, 0, 0, 6, 0, 0, 0, 4, 0, 0, 0, 8, 0, 0, 0, 16, 0, 0, 0];
+
+const COSTS: [u32; 5] = [1, 3, 1, 2, 1];
+
+// The task of source document 001.
+const NEEDS_001: [u64; 16] = [1, 0, 0, 0, 1, 0, 0, 0, 1, 0, 0, 0, 14, 0, 0, 0];
+
+const SETS_001: [u64; 16] = [6, 0, 0, 0, 10, 0, 0, 0, 12, 0, 0, 0, 16, 0, 0, 0];
+
+const COSTS_001: [u32; 4] = [3, 4, 5, 0];
+
+// The must-pass facts and steps of a task; its steps clear all that they set, which makes no
+// difference.
+fn must_line(task: Task, needs: &[u64], sets: &[u64], costs: &[u32], start: &[u64], goal: &[u64]) {
+    let passed = must::must_pass(task, needs, sets, sets, costs, start, goal);
+    let taken = must::must_take(task, needs, sets, sets, costs, start, goal);
+    let verdict = passed.verdict;
+    let facts = passed.facts;
+    let steps = taken.steps;
+    line::answer(verdict);
+    line::say(b", must");
+    line::tell_set(facts);
+    line::say(b", take");
+    line::tell_steps(steps);
+    line::end();
+}
+
+// P1 to P10.
+pub fn must_pass() {
+    line::say(b"P1 to P4");
+    must_line(
+        Task { facts: 5, steps: 5 },
+        &NEEDS,
+        &SETS,
+        &COSTS,
+        &[0, 0, 0, 0],
+        &[16, 0, 0, 0],
+    );
+    line::say(b"P5, P6");
+    must_line(
+        Task { facts: 5, steps: 4 },
+        &NEEDS_001,
+        &SETS_001,
+        &COSTS_001,
+        &[1, 0, 0, 0],
+        &[16, 0, 0, 0],
+    );
+    line::say(b"P7");
+    must_line(
+        Task { facts: 5, steps: 5 },
+        &NEEDS,
+        &SETS,
+        &COSTS,
+        &[6, 0, 0, 0],
+        &[4, 0, 0, 0],
+    );
+    line::say(b"P8");
+    must_line(
+        Task { facts: 2, steps: 0 },
+        &[],
+        &[],
+        &[],
+        &[1, 0, 0, 0],
+        &[2, 0, 0, 0],
+    );
+    line::say(b"P9");
+    must_line(
+        Task { facts: 1, steps: 2 },
+        &[0; 8],
+        &[1, 0, 0, 0, 1, 0, 0, 0],
+        &[2, 3],
+        &[0, 0, 0, 0],
+        &[1, 0, 0, 0],
+    );
+    line::say(b"P10");
+    must_line(
+        Task { facts: 2, steps: 1 },
+        &[0, 0, 0, 0],
+        &[3, 0, 0, 0],
+        &[1],
+        &[0, 0, 0, 0],
+        &[1, 0, 0, 0],
+    );
+}
+
+// The rows of the first task, into a table of so many words, which held 7 each.
+fn rows_lines(room: usize) {
+    let task = Task { facts: 5, steps: 5 };
+    let mut table = [7u64; 22];
+    if 22 < room {
+        return;
+    }
+    let rows = &mut table[0..room];
+    line::say(b"must rows, words");
+    line::tell(room as u64);
+    line::answer(must::must_rows(
+        task,
+        &NEEDS,
+        &SETS,
+        &NEEDS,
+        &COSTS,
+        &[0, 0, 0, 0],
+        &[16, 0, 0, 0],
+        rows,
+    ));
+    line::say(b", table");
+    line::tell_all(rows);
+    line::end();
+    line::say(b"just-before rows, words");
+    line::tell(room as u64);
+    line::answer(must::just_before_rows(
+        task,
+        &NEEDS,
+        &SETS,
+        &NEEDS,
+        &COSTS,
+        &[0, 0, 0, 0],
+        &[16, 0, 0, 0],
+        rows,
+    ));
+    line::say(b", table");
+    line::tell_all(rows);
+    line::end();
+}
+
+// Tables of just enough words, of two more, and of one too few.
+pub fn rows() {
+    rows_lines(20);
+    rows_lines(22);
+    rows_lines(19);
+}
