@@ -1,5 +1,5 @@
--- Each answer of `distances` from the tests that lead to it; and why what it writes are the distances of the task that the tables stand for: the rows hold
--- only its facts, no step is off, and the row of the start is the start.
+-- Each answer of `distances` from the tests that lead to it; and why what it writes are the distances of the task that the tables stand for: no step is off,
+-- and the row of the start is the start.
 use Prim.Native.Nat.{ℕ, _+_, _*_, _≤_, _<_}
 use mathlib.Core.Path.{_≡_, refl, sym, ap, _∙_}
 use mathlib.Core.List.{List, [], _++_}
@@ -21,7 +21,7 @@ use Rattle.task.specs.Check.{verdictOf}
 use Rattle.task.proofs.Refusals.{refuse, skip, none-left, skip-fine, stay}
 use Rattle.task.proofs.Checking.{Checked, checked}
 use Rattle.distance.specs.Distance.{largest, entry, distances, distance, setDistance}
-use Rattle.task.specs.Rows.{rowsTask, RowsBelow}
+use Rattle.task.specs.Rows.{rowsTask}
 use Rattle.distance.specs.Answer.{distancesVerdict, writtenBy, distancesWritten}
 use Rattle.distance.proofs.Extremes.{largest-mono}
 use Rattle.distance.proofs.Equation.{length-distances, distances-same}
@@ -99,13 +99,6 @@ module _ (t : Tables) (out : List ℕ) where
         pub answer-fine : Fine ≡ distancesVerdict t (length out)
         unfolding distancesVerdict
         answer-fine = sym (skip-fine _ (sym checks ∙ fine) ∙ skip 6 [] (below-false _ _ room) ∙ none-left)
-
-        -- the rows hold only facts that have a place in it
-        pub needs-inside : RowsBelow (length (take (t .facts) out)) (t .needs)
-        needs-inside s f h = omega (arith, prefix-length (t .facts) out room, checked t (sym checks ∙ fine) .needs-facts s f h)
-
-        pub sets-inside : RowsBelow (length (take (t .facts) out)) (t .sets)
-        sets-inside s f h = omega (arith, prefix-length (t .facts) out room, checked t (sym checks ∙ fine) .sets-facts s f h)
 
         pub table-fine : (off start new : List ℕ) → off ≡ wordsOf 16 none → start ≡ wordsOf 4 (has (row 4 0 (t .start)))
             → new ≡ distances (rowsTask (length (take (t .facts) out)) (length (t .costs)) (t .needs) (t .sets) (has off) (has start)) (entry (t .costs))

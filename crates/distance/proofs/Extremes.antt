@@ -2,15 +2,17 @@
 use Prim.Native.Nat.{ℕ, zero, suc, _≤_, _<_, max}
 use mathlib.Core.Path.{_≡_, refl, sym, _∙_}
 use mathlib.Core.Bool.{true, false}
+use mathlib.Core.List.{List}
 use mathlib.Core.Logic.{_⊎_, inl, inr}
 use native.Mathlib.Decide.{ℕ-discrete}
 use native.Mathlib.Nat.{not-suc-le-zero, le-antisymm}
 use native.Mathlib.Omega.{arith}
+use lib.ListN.{length, List·getD-eq-default}
 use Rattle.sets.specs.Tests.{Is, pick}
 use Rattle.sets.specs.Sets.{Set, count, dropped, lowest}
 use Rattle.sets.proofs.Tests.{tell, not-both-ways, pick-true, pick-false, compare}
 use Rattle.sets.proofs.Sets.{last, count-lt, count-full, dropped-itself, dropped-other, lowest-is}
-use Rattle.distance.specs.Distance.{largest, least}
+use Rattle.distance.specs.Distance.{largest, least, entry}
 
 -- ---- the largest
 
@@ -40,6 +42,15 @@ module _ (X : Set) (d : ℕ → ℕ) where
 pub largest-mono : (n m : ℕ) (X Y : Set) (d e : ℕ → ℕ) → ((i : ℕ) → i < n → Is (X i) → (i < m) × Is (Y i) × (d i ≤ e i)) → largest n X d ≤ largest m Y e
 largest-mono n m X Y d e h =
     largest-le X d n (largest m Y e) (λ i l x. let k = h i l x in omega (arith, k .2, largest-ge Y e m i (k .0) (k .1)))
+
+-- in a table it does not matter how far one looks past its end
+pub largest-inside : (n : ℕ) (X Y : Set) (d : List ℕ) → ((i : ℕ) → Is (X i) → Is (Y i)) → largest n X (entry d) ≤ largest (length d) Y (entry d)
+largest-inside n X Y d h =
+    largest-le X (entry d) n (largest (length d) Y (entry d))
+    (λ i l x. elim (compare i (length d)) [
+      | inl b ↦ largest-ge Y (entry d) (length d) i b (h i x)
+      | inr b ↦ omega (arith, List·getD-eq-default d 0 b)
+    ])
 
 -- ---- the least
 

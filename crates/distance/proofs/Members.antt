@@ -7,12 +7,12 @@ use mathlib.Core.Logic.{_⊎_, inl, inr}
 use native.Mathlib.Decide.{ℕ-discrete}
 use native.Mathlib.Nat.{le-antisymm}
 use native.Mathlib.Omega.{arith}
-use lib.ListN.{length, set, length-set}
+use lib.ListN.{length, set, length-set, List·getD-eq-default}
 use lib.Seq.{getD-set-same, getD-set-other}
 use Rattle.sets.specs.Tests.{Is, pick}
 use Rattle.sets.specs.Sets.{Set, dropped, count, lowest}
 use Rattle.sets.specs.Words.{has, wordsOf}
-use Rattle.sets.proofs.Tests.{not-both-ways, pick-true, pick-false}
+use Rattle.sets.proofs.Tests.{not-both-ways, compare, pick-true, pick-false}
 use Rattle.sets.proofs.Sets.{dropped-itself, dropped-other, count-same, count-dropped, lowest-is}
 use Rattle.sets.proofs.Words.{has-made, made-has}
 use Rattle.distance.specs.Distance.{largest, listOf, entry}
@@ -101,10 +101,9 @@ pub lowered-le : (X : Set) (x : ℕ) (d z : List ℕ) (f : ℕ) → SameOrLowere
 lowered-le X x d z f (inl e) = omega arith
 lowered-le X x d z f (inr e) = omega (arith, e .1, e .2)
 
--- the next member has a place in the table
-pub lower-in : (X : Set) (x : ℕ) (d z : List ℕ) (r : Bool) (left : List ℕ) (f : ℕ) → f ≡ lowest 256 (has left) → f < 256 → Lowering X (has left) x d z r
-    → ((g : ℕ) → Is (X g) → g < length d) → f < length z
-lower-in X x d z r left f first more s below = omega (arith, s .size, below f (s .part f (first-in left f first more)))
+-- a number that can be lowered has a place in the table
+pub more-inside : (x : ℕ) (z : List ℕ) (f here : ℕ) → here ≡ entry z f → x < here → f < length z
+more-inside x z f here read h = elim (compare f (length z)) [ inl l ↦ l | inr l ↦ absurd (omega (arith, List·getD-eq-default z 0 l)) ]
 
 module _ (X : Set) (x : ℕ) (d z : List ℕ) (r : Bool) (left rest : List ℕ) (f : ℕ) (first : f ≡ lowest 256 (has left)) (more : f < 256)
     (s : Lowering X (has left) x d z r) (made : rest ≡ wordsOf 4 (dropped (has left) f)) where
@@ -123,8 +122,8 @@ module _ (X : Set) (x : ℕ) (d z : List ℕ) (r : Bool) (left rest : List ℕ) 
         fell = s .fell;
       }
 
-  lower-set : x < entry z f → f < length z → Lowering X (has rest) x d (set z f x) true
-  lower-set h l =
+  lower-set : x < entry z f → Lowering X (has rest) x d (set z f x) true
+  lower-set h =
       record {
         size = length-set z f x ∙ s .size;
         each = new;
@@ -132,10 +131,13 @@ module _ (X : Set) (x : ℕ) (d z : List ℕ) (r : Bool) (left rest : List ℕ) 
         same = λ g k. let w = rest-left left f first more rest made g k in getD-set-other z f g x 0 (w .1) ∙ s .same g (w .0);
         kept = λ e. absurd (true≢false e);
         still = λ e. absurd (true≢false e);
-        fell = λ e. sum-lt (length d) (entry (set z f x)) (entry d) (λ g b. lowered-le X x d (set z f x) g (new g)) f (omega (arith, s .size))
-            (omega (arith, getD-set-same z f x 0 l, here));
+        fell = λ e. sum-lt (length d) (entry (set z f x)) (entry d) (λ g b. lowered-le X x d (set z f x) g (new g)) f (omega (arith, s .size, inside))
+            (omega (arith, getD-set-same z f x 0 inside, here));
       }
     where
+      inside : f < length z
+      inside = more-inside x z f (entry z f) refl h
+
       here : entry z f ≡ entry d f
       here = s .same f (first-in left f first more)
 
@@ -143,16 +145,17 @@ module _ (X : Set) (x : ℕ) (d z : List ℕ) (r : Bool) (left rest : List ℕ) 
       new g =
           elim (ℕ-discrete g f) [
             | yes e ↦ subst (λ (g : ℕ). SameOrLowered X x d (set z f x) g) (sym e)
-                (inr (s .part f (first-in left f first more), getD-set-same z f x 0 l, omega (arith, here)))
+                (inr (s .part f (first-in left f first more), getD-set-same z f x 0 inside, omega (arith, here)))
             | no e ↦ subst (λ (q : ℕ). (q ≡ entry d g) ⊎ (Is (X g) × (q ≡ x) × (x < entry d g))) (sym (getD-set-other z f g x 0 e)) (s .each g)
           ]
 
-  -- a turn of the loop: what the table held was more, or it was not
-  pub lower-more : (u : List ℕ) (q : Bool) → f < length z → x < entry z f → u ≡ set z f x → q ≡ true → Lowering X (has rest) x d u q
-  lower-more u q l h e k = rw (e, k) (lower-set h l)
+  -- a turn of the loop: what the table holds here is more, or it is not
+  module _ (u : List ℕ) (q : Bool) (here : ℕ) (read : here ≡ entry z f) where
+    pub lower-more : x < here → u ≡ set z f x → q ≡ true → Lowering X (has rest) x d u q
+    lower-more h e k = rw (e, k) (lower-set (omega arith))
 
-  pub lower-no-more : (u : List ℕ) (q : Bool) → entry z f ≤ x → u ≡ z → q ≡ r → Lowering X (has rest) x d u q
-  lower-no-more u q h e k = rw (e, k) (lower-skip h)
+    pub lower-no-more : here ≤ x → u ≡ z → q ≡ r → Lowering X (has rest) x d u q
+    lower-no-more h e k = rw (e, k) (lower-skip (omega arith))
 
 pub lower-end : (X : Set) (x : ℕ) (d z : List ℕ) (r : Bool) (left : List ℕ) (f : ℕ) → f ≡ lowest 256 (has left) → 256 ≤ f → Lowering X (has left) x d z r
     → Lowered X x d z r

@@ -1,5 +1,5 @@
--- Why relaxing until nothing changes ends in the distances: no relaxation passes below a table that no step relaxes, such as the distances, and a table that
--- none of them changes is no more than they are. Each change lowers the sum of the table.
+-- Why relaxing until nothing changes ends in the largest table that no step relaxes, and when that is the distances: no relaxation passes below such a table,
+-- and each change lowers the sum.
 use Prim.Native.Nat.{ℕ, _+_, _≤_, _<_}
 use mathlib.Core.Path.{_≡_, refl, sym, ap, _∙_, subst}
 use mathlib.Core.Bool.{Bool, true, false, not, false≢true}
@@ -8,6 +8,7 @@ use mathlib.Core.Logic.{_⊎_, inl, inr}
 use native.Mathlib.Nat.{le-antisymm}
 use native.Mathlib.Omega.{arith}
 use lib.ListN.{length}
+use lib.Seq.{ext-getD}
 use borrow.Author.Tests.{not-true, not-false}
 use Rattle.sets.specs.Tests.{Is, no, pick}
 use Rattle.sets.specs.Sets.{Set, none}
@@ -16,9 +17,9 @@ use Rattle.sets.proofs.Tests.{tell, not-both-ways, no-true, no-of, compare, pic
 use Rattle.sets.proofs.Words.{has-made, made-has, row-lt}
 use Rattle.task.specs.Task.{Task}
 use Rattle.distance.specs.Distance.{largest, listOf, entry, throughStep, distance, distances}
-use Rattle.task.specs.Rows.{rowsTask, RowsBelow}
-use Rattle.distance.specs.Relaxing.{sum, Under, Still, Reduced, Relaxed, Lowered, Settled}
-use Rattle.distance.proofs.Extremes.{largest-mono}
+use Rattle.task.specs.Rows.{rowsTask}
+use Rattle.distance.specs.Relaxing.{sum, Under, Still, Reduced, Relaxed, Lowered, LargestStill}
+use Rattle.distance.proofs.Extremes.{largest-mono, largest-inside}
 use Rattle.distance.proofs.Lists.{length-made, entry-list, sum-le}
 use Rattle.distance.proofs.Equation.{through-up, distance-start, distance-mark, distance-step, relaxed-is, distances-only}
 use Rattle.distance.proofs.Members.{lowered-le}
@@ -66,15 +67,15 @@ module _ (t : Task) (c : ℕ → ℕ) where
         fell = λ yes. subst (λ (u : List ℕ). sum (t .facts) (entry u) < sum (t .facts) (entry d)) (sym same) (before .fell (sym (w .1) ∙ yes));
       }
 
+-- there is one largest table under d that no step relaxes
+pub still-only : (t : Task) (c : ℕ → ℕ) (d z u : List ℕ) → LargestStill t c d z → LargestStill t c d u → t .facts ≡ length d → z ≡ u
+still-only t c d z u p q e =
+    ext-getD 0 z u (p .size ∙ sym (q .size))
+    (λ f l.
+    let b : f < t .facts = omega (arith, p .size) in
+    le-antisymm (q .largest (entry z) (p .still) (p .less) f b) (p .largest (entry u) (q .still) (q .less) f b))
+
 -- ---- over rows
-
--- as long a table has rows of the same facts
-pub rows-below : (n m : ℕ) (table : List ℕ) → m ≡ n → RowsBelow n table → RowsBelow m table
-rows-below n m table e h s f k = omega (arith, h s f k)
-
--- the members of a row have places in the table
-pub row-inside : (s n : ℕ) (table set : List ℕ) → RowsBelow n table → set ≡ wordsOf 4 (has (row 4 s table)) → (f : ℕ) → Is (has set f) → f < n
-row-inside s n table set below made f h = below s f (made-has 4 set (has (row 4 s table)) made f h)
 
 module _ (steps : ℕ) (needs sets : List ℕ) (off : Set) (c : ℕ → ℕ) where
   abbrev ofRows : ℕ → Task
@@ -86,9 +87,8 @@ module _ (steps : ℕ) (needs sets : List ℕ) (off : Set) (c : ℕ → ℕ) whe
       relaxed-none (ofRows (length d)) c s (s + 1) d
       (λ a f l m b on. let k : a ≡ s = omega arith in not-both-ways on (ap (λ (a : ℕ). no (off a)) k ∙ no-of (off s) (sym e ∙ h)))
 
-  module _ (s : ℕ) (d : List ℕ) (inside : RowsBelow (length d) needs) (need set : List ℕ) (farthest : ℕ)
-      (need-made : need ≡ wordsOf 4 (has (row 4 s needs))) (set-made : set ≡ wordsOf 4 (has (row 4 s sets)))
-      (far : farthest ≡ largest 256 (has need) (entry d)) where
+  module _ (s : ℕ) (d need set : List ℕ) (farthest : ℕ) (need-made : need ≡ wordsOf 4 (has (row 4 s needs)))
+      (set-made : set ≡ wordsOf 4 (has (row 4 s sets))) (far : farthest ≡ largest 256 (has need) (entry d)) where
     -- what is added up is the step's cost and the farthest of its needs
     through : throughStep (ofRows (length d)) c (entry d) s ≡ c s + farthest
     unfolding throughStep
@@ -97,8 +97,7 @@ module _ (steps : ℕ) (needs sets : List ℕ) (off : Set) (c : ℕ → ℕ) whe
         (le-antisymm
         (largest-mono (length d) 256 (has (row 4 s needs)) (has need) (entry d) (entry d)
         (λ f l x. let b = row-lt 4 s needs f x in (b, has-made 4 need (has (row 4 s needs)) need-made f b ∙ x, omega arith)))
-        (largest-mono 256 (length d) (has need) (has (row 4 s needs)) (entry d) (entry d)
-        (λ f l x. let k = made-has 4 need (has (row 4 s needs)) need-made f x in (inside s f k, k, omega arith)))
+        (largest-inside 256 (has need) (has (row 4 s needs)) d (made-has 4 need (has (row 4 s needs)) need-made))
         ∙ sym far)
 
     -- a step that is on relaxes the table by lowering what it sets
@@ -170,42 +169,50 @@ module _ (steps : ℕ) (needs sets : List ℕ) (off : Set) (c : ℕ → ℕ) whe
     pub settle-less : not r ≡ false → sum (length d) (entry u) < sum (length d) (entry z)
     settle-less h = relaxed .fell (not-false r h)
 
-    -- the distances from any start below which the table was not
-    pub settle-end : (mark : ℕ) → not r ≡ true → Settled (length d) steps needs sets off c mark d u
-    unfolding throughStep
-    settle-end mark h =
+    pub settle-end : not r ≡ true → LargestStill (ofRows (length d)) c d u
+    settle-end h =
         record {
-          from = λ start above most first.
-              let t = rowsTask (length d) steps needs sets off start in
-              let e = relaxed .kept (not-true r h) in
-              distances-only t c mark u (ap length e ∙ before .size)
-              (λ f l. ap (λ (u : List ℕ). entry u f) e
-              ∙ relaxed-is t c mark (entry z) (before .above (distance t c mark) (distance-step t c mark) above)
-              (λ f l. omega (arith, before .less f l, most f l)) (λ f l s. omega (arith, before .less f l, first f l s)) (relaxed .still (not-true r h)) f l);
+          size = settle-next .size;
+          less = settle-next .less;
+          still = subst (λ (u : List ℕ). Still (ofRows (length d)) c 0 steps (entry u)) (sym (relaxed .kept (not-true r h))) (relaxed .still (not-true r h));
+          largest = settle-next .above;
         }
 
-  -- ---- from 0 for what holds at first and the mark for everything else
+  -- ---- when what it ends in is the distances
 
-  pub find-end : (mark n : ℕ) (start : Set) (z u : List ℕ) → z ≡ listOf n (λ f. pick (start f) 0 mark) → Settled (length z) steps needs sets off c mark z u
-      → u ≡ distances (rowsTask n steps needs sets off start) c mark
-  find-end mark n start z u begun settled =
-      subst (λ (k : ℕ). Settled k steps needs sets off c mark z u) (length-made n z _ begun) settled .from start above most in-start
+  -- whatever is to hold at first: the table was 0 there, the mark at most elsewhere and nowhere below the distances
+  pub settled-distances : (mark n : ℕ) (start : Set) (d z : List ℕ) → length d ≡ n → LargestStill (ofRows n) c d z
+      → let t = rowsTask n steps needs sets off start in
+      Under n (distance t c mark) (entry d) → Under n (entry d) (λ f. mark) → ((f : ℕ) → f < n → Is (start f) → entry d f ≡ 0) → z ≡ distances t c mark
+  unfolding throughStep
+  settled-distances mark n start d z size settled above most first =
+      let t = rowsTask n steps needs sets off start in
+      distances-only t c mark z (settled .size ∙ size)
+      (relaxed-is t c mark (entry z) (settled .largest (distance t c mark) (distance-step t c mark) above)
+      (λ f l. omega (arith, settled .less f l, most f l)) (λ f l s. omega (arith, settled .less f l, first f l s)) (settled .still))
+
+  -- it was 0 for what holds at first and the mark for everything else
+  pub begun-distances : (mark n : ℕ) (start : Set) (d z : List ℕ) → d ≡ listOf n (λ f. pick (start f) 0 mark) → LargestStill (ofRows (length d)) c d z
+      → z ≡ distances (rowsTask n steps needs sets off start) c mark
+  begun-distances mark n start d z begun settled =
+      let e = length-made n d _ begun in
+      settled-distances mark n start d z e (subst (λ (k : ℕ). LargestStill (ofRows k) c d z) e settled) above most in-start
     where
       t : Task
       t = rowsTask n steps needs sets off start
 
-      in-start : (f : ℕ) → f < n → Is (start f) → entry z f ≡ 0
-      in-start f l h = ap (λ (z : List ℕ). entry z f) begun ∙ entry-list n _ f l ∙ pick-true 0 mark h
+      in-start : (f : ℕ) → f < n → Is (start f) → entry d f ≡ 0
+      in-start f l h = ap (λ (d : List ℕ). entry d f) begun ∙ entry-list n _ f l ∙ pick-true 0 mark h
 
-      elsewhere : (f : ℕ) → f < n → start f ≡ false → entry z f ≡ mark
-      elsewhere f l h = ap (λ (z : List ℕ). entry z f) begun ∙ entry-list n _ f l ∙ pick-false 0 mark h
+      elsewhere : (f : ℕ) → f < n → start f ≡ false → entry d f ≡ mark
+      elsewhere f l h = ap (λ (d : List ℕ). entry d f) begun ∙ entry-list n _ f l ∙ pick-false 0 mark h
 
-      above : Under n (distance t c mark) (entry z)
+      above : Under n (distance t c mark) (entry d)
       above f l =
           elim (tell (start f)) [
             | inl h ↦ omega (arith, distance-start t c mark f l h)
             | inr h ↦ omega (arith, distance-mark t c mark f l, elsewhere f l h)
           ]
 
-      most : Under n (entry z) (λ f. mark)
+      most : Under n (entry d) (λ f. mark)
       most f l = elim (tell (start f)) [ inl h ↦ omega (arith, in-start f l h) | inr h ↦ omega (arith, elsewhere f l h) ]

@@ -1,4 +1,4 @@
--- What the workers behind `distances` promise, free of the order in which they go. To relax a table by a step is to lower what it holds for a fact that the
+-- What `settle` and the workers behind it promise, free of the order in which they go. To relax a table by a step is to lower what it holds for a fact that the
 -- step sets to the step's cost plus the largest that the table holds for its needs.
 use Prim.Native.Nat.{ℕ, zero, suc, _+_, _≤_, _<_}
 use mathlib.Core.Path.{_≡_}
@@ -9,13 +9,7 @@ use lib.ListN.{length}
 use Rattle.sets.specs.Tests.{Is}
 use Rattle.sets.specs.Sets.{Set}
 use Rattle.task.specs.Task.{Task}
-use Rattle.task.specs.Rows.{rowsTask}
-use Rattle.distance.specs.Distance.{entry, throughStep, distance, distances}
-
--- the sum of the first n numbers of d
-unfoldable pub sum : ℕ → (ℕ → ℕ) → ℕ
-sum zero d = 0
-sum (suc n) d = sum n d + d n
+use Rattle.distance.specs.Distance.{entry, throughStep}
 
 -- e is nowhere above d
 abbrev pub Under : ℕ → (ℕ → ℕ) → (ℕ → ℕ) → Type 0
@@ -24,6 +18,20 @@ Under n e d = (f : ℕ) → f < n → e f ≤ d f
 -- no step from a up to b that is on relaxes d
 abbrev pub Still : Task → (ℕ → ℕ) → ℕ → ℕ → (ℕ → ℕ) → Type 0
 Still t c a b d = (s f : ℕ) → a ≤ s → s < b → f < t .facts → Is (t .on s) → Is (t .sets s f) → d f ≤ throughStep t c d s
+
+-- z is the largest table under d that no step relaxes
+pub record LargestStill (t : Task) (c : ℕ → ℕ) (d z : List ℕ) : Type 0 where
+  pub size : length z ≡ length d
+  pub less : Under (t .facts) (entry z) (entry d)
+  pub still : Still t c 0 (t .steps) (entry z)
+  pub largest : (e : ℕ → ℕ) → Still t c 0 (t .steps) e → Under (t .facts) e (entry d) → Under (t .facts) e (entry z)
+
+-- ---- the workers
+
+-- the sum of the first n numbers of d
+unfoldable pub sum : ℕ → (ℕ → ℕ) → ℕ
+sum zero d = 0
+sum (suc n) d = sum n d + d n
 
 -- z came from d by lowering numbers, and lies above every table under d that no step relaxes
 pub record Reduced (t : Task) (c : ℕ → ℕ) (d z : List ℕ) : Type 0 where
@@ -49,9 +57,3 @@ pub record Lowered (X : Set) (x : ℕ) (d z : List ℕ) (r : Bool) : Type 0 wher
   pub kept : r ≡ false → z ≡ d
   pub still : r ≡ false → (f : ℕ) → f < 256 → Is (X f) → entry d f ≤ x
   pub fell : r ≡ true → sum (length d) (entry z) < sum (length d) (entry d)
-
--- whatever was to hold at first: if d is 0 there, the mark at most elsewhere and nowhere below the distances, z is the distances
-pub record Settled (facts steps : ℕ) (needs sets : List ℕ) (off : Set) (c : ℕ → ℕ) (mark : ℕ) (d z : List ℕ) : Type 0 where
-  pub from : (start : Set) → let t = rowsTask facts steps needs sets off start in
-      Under facts (distance t c mark) (entry d) → Under facts (entry d) (λ f. mark) → ((f : ℕ) → f < facts → Is (start f) → entry d f ≡ 0)
-      → z ≡ distances t c mark

@@ -1,23 +1,27 @@
 // Distances (h-max): of each fact the cheapest derivation from the start, clearing ignored, where of
 // several needs the farthest counts.
 //
+// `distances` finds them for a task. `begin_distances` and `settle` are its two halves, for a caller
+// that lowers costs and goes on from the distances under the old ones: `settled-distances` in
+// proofs/Relaxing.antt tells from which tables `settle` ends in the distances.
+//
 // No public function has a `requires`. The contracts cite specs/Distance.antt and specs/Answer.antt;
-// those of the workers cite specs/Relaxing.antt.
+// those of `settle` and its workers cite specs/Relaxing.antt.
 use sets::Facts;
 use sets::Steps;
 use task::Task;
 use task::Verdict;
 ghost use mathlib.Core.Path.{_≡_};
-ghost use Prim.Native.Nat.{ℕ, _+_, _<_, _≤_};
+ghost use Prim.Native.Nat.{_+_, _<_};
 ghost use lib.ListN.{length};
-ghost use Rattle.sets.specs.Tests.{Is, pick};
+ghost use Rattle.sets.specs.Tests.{pick};
 ghost use Rattle.sets.specs.Sets.{none};
 ghost use Rattle.sets.specs.Words.{has};
 ghost use Rattle.task.specs.Limits.{limits};
 ghost use Rattle.task.specs.Tables.{tables};
 ghost use Rattle.distance.specs.Distance.{largest, listOf, entry, distances};
-ghost use Rattle.task.specs.Rows.{rowsTask, RowsBelow};
-ghost use Rattle.distance.specs.Relaxing.{Lowered, Relaxed, Settled};
+ghost use Rattle.task.specs.Rows.{rowsTask};
+ghost use Rattle.distance.specs.Relaxing.{Lowered, Relaxed, LargestStill};
 ghost use Rattle.distance.specs.Answer.{distancesVerdict, distancesWritten};
 
 // Writes the distances of all facts under the task's costs into the first numbers of a table.
@@ -54,6 +58,33 @@ pub fn distances(
     Verdict::Fine
 }
 
+// Makes the table 0 for what holds at first and the mark for everything else.
+pub fn begin_distances(start: Facts, table: &mut [u32])
+    ensures { λ _. ⌜ now (table .exit) ≡ listOf (length (now (table .entry))) (λ f. pick (has (start .words) f) 0 (limits .mark)) ⌝ }
+{
+    let mut f: usize = 0;
+    while f < table.len() {
+        if start.has(f) {
+            table[f] = 0;
+        } else {
+            table[f] = Task::MARK;
+        }
+        f += 1;
+    }
+}
+
+// Relaxes the table by all steps that are not off until none of them changes it: what it ends as is
+// the largest table nowhere above it that none of them relaxes. A fact past its end counts as 0.
+pub fn settle(needs: &[u64], sets: &[u64], costs: &[u32], off: Steps, table: &mut [u32])
+    ensures { λ _. ⌜ LargestStill (rowsTask (length (now (table .entry))) (length (now (costs .entry))) (now (needs .entry)) (now (sets .entry)) (has (off .words)) none) (entry (now (costs .entry))) (now (table .entry)) (now (table .exit)) ⌝ }
+{
+    loop {
+        if !relax(needs, sets, costs, off, table) {
+            return;
+        }
+    }
+}
+
 // The distance of a set in a table of distances: the largest among its members, 0 for the empty set.
 // A number past the table's end counts as 0.
 pub fn set_distance(table: &[u32], set: Facts) -> u32
@@ -83,43 +114,14 @@ fn entry_at(table: &[u32], f: usize) -> u32
 // Makes the table the distances of its facts, without the steps that are off, from what holds at
 // first.
 fn find(needs: &[u64], sets: &[u64], costs: &[u32], off: Steps, start: Facts, table: &mut [u32])
-    requires { ⌜ RowsBelow (length (now table)) (now needs) × RowsBelow (length (now table)) (now sets) ⌝ }
     ensures { λ _. ⌜ now (table .exit) ≡ distances (rowsTask (length (now (table .entry))) (length (now (costs .entry))) (now (needs .entry)) (now (sets .entry)) (has (off .words)) (has (start .words))) (entry (now (costs .entry))) (limits .mark) ⌝ }
 {
-    begin(start, table);
+    begin_distances(start, table);
     settle(needs, sets, costs, off, table);
-}
-
-// Makes the table 0 for what holds at first and the mark for everything else.
-fn begin(start: Facts, table: &mut [u32])
-    ensures { λ _. ⌜ now (table .exit) ≡ listOf (length (now (table .entry))) (λ f. pick (has (start .words) f) 0 (limits .mark)) ⌝ }
-{
-    let mut f: usize = 0;
-    while f < table.len() {
-        if start.has(f) {
-            table[f] = 0;
-        } else {
-            table[f] = Task::MARK;
-        }
-        f += 1;
-    }
-}
-
-// Relaxes the table by all steps that are not off until none of them changes it.
-fn settle(needs: &[u64], sets: &[u64], costs: &[u32], off: Steps, table: &mut [u32])
-    requires { ⌜ RowsBelow (length (now table)) (now needs) × RowsBelow (length (now table)) (now sets) ⌝ }
-    ensures { λ _. ⌜ Settled (length (now (table .entry))) (length (now (costs .entry))) (now (needs .entry)) (now (sets .entry)) (has (off .words)) (entry (now (costs .entry))) (limits .mark) (now (table .entry)) (now (table .exit)) ⌝ }
-{
-    loop {
-        if !relax(needs, sets, costs, off, table) {
-            return;
-        }
-    }
 }
 
 // Relaxes the table by each step that is not off, one after the other. Whether one changed it.
 fn relax(needs: &[u64], sets: &[u64], costs: &[u32], off: Steps, table: &mut [u32]) -> bool
-    requires { ⌜ RowsBelow (length (now table)) (now needs) × RowsBelow (length (now table)) (now sets) ⌝ }
     ensures { λ r. ⌜ Relaxed (rowsTask (length (now (table .entry))) (length (now (costs .entry))) (now (needs .entry)) (now (sets .entry)) (has (off .words)) none) (entry (now (costs .entry))) 0 (length (now (costs .entry))) (now (table .entry)) (now (table .exit)) r ⌝ }
 {
     let mut again = false;
@@ -142,7 +144,7 @@ fn relax_by(
     step: usize,
     table: &mut [u32],
 ) -> bool
-    requires { ⌜ RowsBelow (length (now table)) (now needs) × RowsBelow (length (now table)) (now sets) × (step < length (now costs)) ⌝ }
+    requires { ⌜ step < length (now costs) ⌝ }
     ensures { λ r. ⌜ Relaxed (rowsTask (length (now (table .entry))) (length (now (costs .entry))) (now (needs .entry)) (now (sets .entry)) (has (off .words)) none) (entry (now (costs .entry))) step (step + 1) (now (table .entry)) (now (table .exit)) r ⌝ }
 {
     if off.has(step) {
@@ -159,14 +161,13 @@ fn relax_by(
 // Lowers to x what the table holds for each member of the set, where that is more. Whether it was
 // for any.
 fn lower(set: Facts, x: u64, table: &mut [u32]) -> bool
-    requires { ⌜ ((f : ℕ) → Is (has (set .words) f) → f < length (now table)) ⌝ }
     ensures { λ r. ⌜ Lowered (has (set .words)) x (now (table .entry)) (now (table .exit)) r ⌝ }
 {
     let mut changed = false;
     let mut left = set;
     let mut f = left.lowest();
     while f < Facts::ROOM {
-        if x < table[f] as u64 {
+        if x < entry_at(table, f) as u64 {
             table[f] = x as u32;
             changed = true;
         }

@@ -1,6 +1,6 @@
 -- Each answer follows from the tests before it, and the rest of the result table is not lent to the worker.
 use borrow.Author.Needs.{needs}
-use Rattle.distance.proofs.Answering.{needs-inside, sets-inside, table-fine, answering}
+use Rattle.distance.proofs.Answering.{table-fine, answering}
 use Rattle.distance.proofs.distances.Statement.{statement}
 use Rattle.distance.proofs.distances.Tie as tie
 
@@ -32,10 +32,7 @@ slice-aggregate-find : tie.Need-slice-aggregate-find
 slice-aggregate-find c = search answering
 
 find-requires : tie.Need-find-requires
-find-requires c κs = (
-  needs-inside _ _ (c .before .before .before .before .before .before .check .ensures) (c .before .before .before .before .enum-told .given .1) (c .before .before .before .if1 .left),
-  sets-inside _ _ (c .before .before .before .before .before .before .check .ensures) (c .before .before .before .before .enum-told .given .1) (c .before .before .before .if1 .left),
-)
+find-requires c κs = search needs
 
 same-length : tie.Need-same-length
 same-length c = search needs

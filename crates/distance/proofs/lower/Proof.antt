@@ -1,11 +1,10 @@
 -- Members that are not left have been lowered, those that are left are as they were, and each turn takes the lowest of them out.
 use mathlib.Core.Logic.{inl, inr}
 use mathlib.Core.Path.{_≡_}
-use native.Mathlib.Omega.{arith}
 use borrow.Author.Needs.{needs}
 use Rattle.sets.specs.Sets.{count, lowest}
 use Rattle.sets.specs.Words.{has}
-use Rattle.distance.proofs.Members.{fewer, Lowering, lower-start, lower-in, lower-more, lower-no-more, lower-end}
+use Rattle.distance.proofs.Members.{fewer, Lowering, lower-start, more-inside, lower-more, lower-no-more, lower-end}
 use Rattle.distance.proofs.lower.Statement.{statement}
 use Rattle.distance.proofs.lower.Tie as tie
 
@@ -22,23 +21,20 @@ lowest-requires c κs = search needs
 loop-holds : tie.Need-loop-holds Inv-loop μ-loop
 loop-holds c = search (needs, lower-start)
 
-mul-if1 : tie.Need-mul-if1 Inv-loop μ-loop
-mul-if1 c = search needs
-
-slice-read-if1 : tie.Need-slice-read-if1 Inv-loop μ-loop
-slice-read-if1 c = search (needs, lower-in)
+entry-at-requires : tie.Need-entry-at-requires Inv-loop μ-loop
+entry-at-requires c κs = search needs
 
 cast-if1 : tie.Need-cast-if1 Inv-loop μ-loop
-cast-if1 c = omega (arith, c .slice-known2 .given (c .before .before .loop .f))
+cast-if1 c = search needs
 
 cast-table : tie.Need-cast-table Inv-loop μ-loop
-cast-table c = omega (arith, c .before .slice-known2 .given (c .before .before .before .loop .f))
+cast-table c = search needs
 
 mul-table : tie.Need-mul-table Inv-loop μ-loop
 mul-table c = search needs
 
 slice-write-table : tie.Need-slice-write-table Inv-loop μ-loop
-slice-write-table c = search (needs, lower-in)
+slice-write-table c = search (needs, more-inside)
 
 without-requires : tie.Need-without-requires Inv-loop μ-loop
 without-requires c κs = search needs
@@ -52,7 +48,7 @@ loop-less c = search (needs, fewer)
 loop-again : tie.Need-loop-again Inv-loop μ-loop
 loop-again c = (
   search needs,
-  elim (c .before .before .if1 .came) [ inl w ↦ search (needs, lower-more, lower-in) | inr w ↦ search (needs, lower-no-more) ],
+  elim (c .before .before .if1 .came) [ inl w ↦ search (needs, lower-more) | inr w ↦ search (needs, lower-no-more) ],
 )
 
 same-length : tie.Need-same-length Inv-loop μ-loop
@@ -69,8 +65,7 @@ lower-spec =
     μ-loop
     lowest-requires
     loop-holds
-    mul-if1
-    slice-read-if1
+    entry-at-requires
     cast-if1
     cast-table
     mul-table

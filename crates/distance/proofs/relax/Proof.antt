@@ -8,7 +8,7 @@ use Rattle.sets.specs.Words.{has}
 use Rattle.distance.specs.Distance.{entry}
 use Rattle.task.specs.Rows.{rowsTask}
 use Rattle.distance.specs.Relaxing.{Relaxed}
-use Rattle.distance.proofs.Relaxing.{rows-below, relax-start, relax-changed, relax-kept, relax-end}
+use Rattle.distance.proofs.Relaxing.{relax-start, relax-changed, relax-kept, relax-end}
 use Rattle.distance.proofs.relax.Statement.{statement}
 use Rattle.distance.proofs.relax.Tie as tie
 
@@ -24,7 +24,7 @@ loop-holds : tie.Need-loop-holds Inv-loop μ-loop
 loop-holds c = search (needs, relax-start)
 
 relax-by-requires : tie.Need-relax-by-requires Inv-loop μ-loop
-relax-by-requires c κs = search (needs, rows-below)
+relax-by-requires c κs = search needs
 
 add-step : tie.Need-add-step Inv-loop μ-loop
 add-step c = search needs

@@ -1,7 +1,7 @@
 -- A step that is off changes nothing; one that is on lowers what it sets to its cost plus the largest distance among its needs.
 use native.Mathlib.Omega.{arith}
 use borrow.Author.Needs.{needs}
-use Rattle.distance.proofs.Relaxing.{relax-off, relax-on, row-inside}
+use Rattle.distance.proofs.Relaxing.{relax-off, relax-on}
 use Rattle.distance.proofs.relax_by.Statement.{statement}
 use Rattle.distance.proofs.relax_by.Tie as tie
 
@@ -40,7 +40,7 @@ add-lower c =
     omega (arith, c .shared-slice-known4 .given (entry .args .step), c .before .before .set-distance .ok)
 
 lower-requires : tie.Need-lower-requires
-lower-requires c κs = search (needs, row-inside)
+lower-requires c κs = search needs
 
 same-length : tie.Need-same-length
 same-length c = search needs

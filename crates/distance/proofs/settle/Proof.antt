@@ -1,4 +1,4 @@
--- Each pass that changes the table lowers its sum and nothing below the distances; one that changes nothing leaves a table that no step relaxes.
+-- Each pass that changes the table lowers its sum and nothing below a table that no step relaxes; one that changes nothing leaves a table that no step relaxes.
 use lib.ListN.{length}
 use borrow.Author.Needs.{needs}
 use Rattle.sets.specs.Sets.{none}
@@ -6,7 +6,7 @@ use Rattle.sets.specs.Words.{has}
 use Rattle.distance.specs.Distance.{entry}
 use Rattle.task.specs.Rows.{rowsTask}
 use Rattle.distance.specs.Relaxing.{sum, Reduced}
-use Rattle.distance.proofs.Relaxing.{rows-below, reduced-start, settle-next, settle-less, settle-end}
+use Rattle.distance.proofs.Relaxing.{reduced-start, settle-next, settle-less, settle-end}
 use Rattle.distance.proofs.settle.Statement.{statement}
 use Rattle.distance.proofs.settle.Tie as tie
 
@@ -20,7 +20,7 @@ loop-holds : tie.Need-loop-holds Inv-loop μ-loop
 loop-holds c = search (needs, reduced-start)
 
 relax-requires : tie.Need-relax-requires Inv-loop μ-loop
-relax-requires c κs = search (needs, rows-below)
+relax-requires c κs = search needs
 
 same-length : tie.Need-same-length Inv-loop μ-loop
 same-length c = search needs

@@ -6,8 +6,8 @@ use borrow.Author.Needs.{needs}
 use Rattle.sets.specs.Words.{has}
 use Rattle.task.specs.Limits.{limits}
 use Rattle.distance.proofs.Members.{Begun, begin-start, begin-member, begin-other, begin-end}
-use Rattle.distance.proofs.begin.Statement.{statement}
-use Rattle.distance.proofs.begin.Tie as tie
+use Rattle.distance.proofs.begin_distances.Statement.{statement}
+use Rattle.distance.proofs.begin_distances.Tie as tie
 
 abbrev Inv-loop : tie.InvT-loop
 Inv-loop start table₀ f₀ table f = Begun (has (start .words)) (limits .mark) table₀ table f
@@ -48,8 +48,8 @@ same-length c = search needs
 returns : tie.Need-returns Inv-loop μ-loop
 returns c = begin-end _ _ _ _ _ (c .before .loop .inv) (c .loop-test .left)
 
-pub begin-spec : {M : Type 1} → statement M
-begin-spec =
+pub begin-distances-spec : {M : Type 1} → statement M
+begin-distances-spec =
     tie.close
     (tie.spec
     Inv-loop
