@@ -1,17 +1,14 @@
 -- What `grow` answers of the rows of checked tables is what the tables' task has within reach, because reach looks at nothing else of a task.
 use Prim.Native.Nat.{ℕ}
-use mathlib.Core.Path.{_≡_, sym, ap, _∙_, fun-ext}
+use mathlib.Core.Path.{_≡_, refl, sym, ap, _∙_, fun-ext}
 use mathlib.Core.Bool.{true}
 use mathlib.Core.List.{List}
-use mathlib.Core.Logic.{inl, inr}
-use native.Mathlib.Omega.{arith}
-use lib.Seq.{take-all}
 use Rattle.sets.specs.declared.facts.Facts.{Facts}
 use Rattle.sets.specs.Tests.{no, both}
 use Rattle.sets.specs.Sets.{Set, none, removed}
 use Rattle.sets.specs.Words.{has, wordsOf, row}
-use Rattle.sets.proofs.Tests.{both-comm, not-is, fails, compare}
-use Rattle.sets.proofs.Words.{has-made, made-has, has-past, has-of-past}
+use Rattle.sets.proofs.Tests.{both-comm}
+use Rattle.sets.proofs.Words.{set-read}
 use Rattle.task.specs.declared.verdict.Verdict.{Verdict}
 use Rattle.task.specs.declared.verdict.Verdict.the-variants.{Fine, Refused}
 use Rattle.task.specs.Task.{Task}
@@ -19,6 +16,7 @@ use Rattle.task.specs.Walks.{possible}
 use Rattle.task.specs.Tables.{Tables, view}
 use Rattle.task.specs.Check.{verdictOf}
 use Rattle.task.proofs.Checking.{Checked, checked}
+use Rattle.task.proofs.Tables.{plain, rows-plain}
 use Rattle.reach.specs.declared.Reached.{Reached}
 use Rattle.reach.specs.Reach.{made, closure, reach, passes, without}
 use Rattle.reach.specs.Answer.{reachedBy, reachedOf}
@@ -43,6 +41,11 @@ rows-without t off = ap (λ (on : Set). closure (with-on on)) (fun-ext (λ s. bo
       on = on;
     }
 
+-- reach looks at nothing that is not passed on
+pub plain-reach : (t : Tables) → reach (plain t) ≡ reach (view t)
+unfolding reach closure made possible none no
+plain-reach t = refl
+
 module _ (t : Tables) {v : Verdict} (tested : v ≡ verdictOf t) where
   -- nothing is reached where the task is refused
   pub answer-refused : (set : Facts) (k p : ℕ) → v ≡ Refused k p → set .words ≡ wordsOf 4 none → record { verdict = v; set = set; passes = 0 } ≡ reachedOf t
@@ -54,33 +57,17 @@ module _ (t : Tables) {v : Verdict} (tested : v ≡ verdictOf t) where
     sound : Checked t
     sound = checked t (sym tested ∙ fine)
 
-    -- the set that was read is the start
-    first-is : has first ≡ has (t .start)
-    unfolding row
-    first-is =
-        fun-ext (λ f.
-        let same-words : first ≡ wordsOf 4 (has (t .start)) = read ∙ ap (λ (l : List ℕ). wordsOf 4 (has l)) (take-all 4 (t .start) (omega (arith, sound .start-length))) in
-        elim (compare f 256) [
-          | inl l ↦ has-made 4 first _ same-words f l
-          | inr l ↦
-              ap (λ (l : List ℕ). has l f) same-words ∙ has-of-past 4 (has (t .start)) f l
-              ∙ sym (has-past (t .start) f (omega (arith, sound .start-length)))
-        ])
-
     -- the rows may be passed on
     pub answer-asks : Bounded (t .facts) (t .needs) (t .sets) (has first)
     answer-asks = record {
       few = sound .few-facts;
       needs-below = sound .needs-facts;
       sets-below = sound .sets-facts;
-      start-below = rw first-is (sound .start-facts);
+      start-below = rw (set-read 4 (t .start) (sound .start-length) read) (sound .start-facts);
     }
 
     -- with no step off, what is passed on is the task
     pub answer-fine : {off : List ℕ} {r : Reached} → off ≡ wordsOf 16 none
         → r ≡ reachedBy Fine (rowsTask (t .facts) (t .steps) (t .needs) (t .sets) (has off) (has first)) → r ≡ reachedOf t
     unfolding reachedOf reachedBy reach passes closure made possible none no
-    answer-fine {off} {r} e answer = answer ∙ rw (none-off, first-is, sym tested, fine)
-      where
-        none-off : has off ≡ none
-        none-off = fun-ext (λ s. fails (has off s) (λ h. not-is (made-has 16 off none e s h)))
+    answer-fine e answer = answer ∙ ap (reachedBy Fine) (rows-plain t sound e read) ∙ rw (sym tested, fine)

@@ -1,7 +1,7 @@
 -- The code's passes are document 01's: a pass has added what the steps that it has gone through make, and the passes counted with those still to come
 -- are all passes.
 use Prim.Native.Nat.{ℕ, zero, suc, _+_, _-_, _≤_, _<_}
-use mathlib.Core.Path.{_≡_, refl, sym, ap, ap₂, _∙_, subst}
+use mathlib.Core.Path.{_≡_, refl, sym, ap, ap₂, _∙_, subst, fun-ext}
 use mathlib.Core.Bool.{Bool, true, false, not}
 use mathlib.Core.List.{List}
 use mathlib.Core.Logic.{inl, inr}
@@ -16,7 +16,7 @@ use Rattle.sets.specs.Sets.{Set, joined, any, within, count}
 use Rattle.sets.specs.Words.{has, wordsOf, row}
 use Rattle.sets.proofs.Tests.{not-both-ways, equal-tests, both-true, both-false-l, both-false-r, either-l, either-r, either-cases, no-true, no-of, compare}
 use Rattle.sets.proofs.Sets.{within-at, within-true, within-past, count-most, count-same}
-use Rattle.sets.proofs.Words.{has-made, made-has, length-words-of, words-of-fit, words-only, words-of-same, row-lt}
+use Rattle.sets.proofs.Words.{has-made, made-has, length-words-of, words-of-fit, words-only, words-of-same, row-lt, row-read}
 use Rattle.sets.specs.declared.facts.Facts.{Facts}
 use Rattle.task.specs.declared.verdict.Verdict.the-variants.{Fine}
 use Rattle.task.specs.Task.{Task}
@@ -31,6 +31,26 @@ use Rattle.reach.proofs.Ways.{made-at, made-rising}
 
 -- ---- one step of a pass
 
+-- what it adds
+module _ (needs sets off : List ℕ) (X : Set) (s : ℕ) {r : Bool} where
+  -- nothing where it is off
+  pub added-off : r ≡ has off s → Is r → (f : ℕ) → addedBy needs sets (has off) X s f ≡ false
+  unfolding addedBy
+  added-off e h f = both-false-l _ (has (row 4 s sets) f) (both-false-l (no (has off s)) _ (no-of (has off s) (sym e ∙ h)))
+
+  -- nothing where its needs do not all hold
+  pub added-idle : r ≡ within 256 (has (row 4 s needs)) X → not r ≡ true → (f : ℕ) → addedBy needs sets (has off) X s f ≡ false
+  unfolding addedBy
+  added-idle e h f = both-false-l _ (has (row 4 s sets) f) (both-false-r (no (has off s)) _ (sym e ∙ not-true r h))
+
+  -- what it sets where it is taken
+  pub added-all : {p : Bool} → p ≡ has off s → p ≡ false → r ≡ within 256 (has (row 4 s needs)) X → not r ≡ false
+      → addedBy needs sets (has off) X s ≡ has (row 4 s sets)
+  unfolding addedBy both
+  added-all o on e holds =
+      fun-ext (λ f. ap (λ (q : Bool). both q (has (row 4 s sets) f))
+      (both-true (no (has off s)) _ (no-true (has off s) (sym o ∙ on)) (sym e ∙ not-false r holds)))
+
 -- a set to which nothing is added stays as it is
 added-none : (ws : List ℕ) (Y : Set) → length ws ≡ 4 → ((i : ℕ) → Fits w64 (getD ws i 0)) → ((f : ℕ) → Y f ≡ false) → ws ≡ wordsOf 4 (joined (has ws) Y)
 unfolding joined
@@ -43,27 +63,19 @@ module _ (needs sets off next : List ℕ) (X : Set) (s : ℕ) {r : Bool} where
   -- it is off
   pub step-off : r ≡ has off s → Is r → length next ≡ 4 → ((i : ℕ) → Fits w64 (getD next i 0))
       → next ≡ wordsOf 4 (joined (has next) (addedBy needs sets (has off) X s))
-  unfolding addedBy
-  step-off e h size fits =
-      added-none next _ size fits (λ f. both-false-l _ (has (row 4 s sets) f) (both-false-l (no (has off s)) _ (no-of (has off s) (sym e ∙ h))))
+  step-off e h size fits = added-none next _ size fits (added-off needs sets off X s e h)
 
   -- its needs do not all hold
   pub step-idle : r ≡ within 256 (has (row 4 s needs)) X → not r ≡ true → length next ≡ 4 → ((i : ℕ) → Fits w64 (getD next i 0))
       → next ≡ wordsOf 4 (joined (has next) (addedBy needs sets (has off) X s))
-  unfolding addedBy
-  step-idle e h size fits =
-      added-none next _ size fits (λ f. both-false-l _ (has (row 4 s sets) f) (both-false-r (no (has off s)) _ (sym e ∙ not-true r h)))
+  step-idle e h size fits = added-none next _ size fits (added-idle needs sets off X s e h)
 
   -- it is taken
   pub step-adds : {p : Bool} {after read : List ℕ} → p ≡ has off s → p ≡ false → r ≡ within 256 (has (row 4 s needs)) X → not r ≡ false
       → read ≡ wordsOf 4 (has (row 4 s sets)) → after ≡ wordsOf 4 (joined (has next) (has read))
       → after ≡ wordsOf 4 (joined (has next) (addedBy needs sets (has off) X s))
-  unfolding addedBy joined both
-  step-adds {p} {after} {read} o on e holds row-read a =
-      a ∙ words-of-same 4 _ _ (λ f l. ap (either (has next f))
-      (has-made 4 read _ row-read f l
-      ∙ ap (λ (q : Bool). both q (has (row 4 s sets) f))
-      (sym (both-true (no (has off s)) _ (no-true (has off s) (sym o ∙ on)) (sym e ∙ not-false r holds)))))
+  step-adds o on e holds read a =
+      a ∙ ap (λ (Y : Set). wordsOf 4 (joined (has next) Y)) (row-read 4 s sets read ∙ sym (added-all needs sets off X s o on e holds))
 
 -- ---- one pass: before step s, what is made by the steps below s has been added
 

@@ -7,10 +7,10 @@ use mathlib.Core.List.{List, [], _∷_, _++_}
 use mathlib.Core.Logic.{_⊎_, inl, inr, _↔_}
 use native.Mathlib.Nat.{not-suc-le-zero}
 use native.Mathlib.Omega.{arith}
-use Rattle.sets.specs.Tests.{Is, no, pick}
-use Rattle.sets.specs.Sets.{Set, none, removed, count, members}
-use Rattle.sets.proofs.Tests.{tell, not-both-ways, both-l, both-r, both-true, no-true, no-false, either-not, either-false, pick-true, pick-false}
-use Rattle.sets.proofs.Sets.{any-true, any-at, within-at, within-true, last}
+use Rattle.sets.specs.Tests.{Is, pick}
+use Rattle.sets.specs.Sets.{Set, none, count, members}
+use Rattle.sets.proofs.Tests.{tell, not-both-ways, both-l, both-r, both-true, either-not, either-false, pick-true, pick-false}
+use Rattle.sets.proofs.Sets.{any-true, any-at, within-at, within-true, last, removed-true, removed-at}
 use Rattle.task.specs.Task.{Task, ignoringClears}
 use Rattle.task.specs.Walks.{possible, taking, canTake, after, goalHolds, way, wayEnd, wayToGoal}
 use Rattle.task.proofs.Walks.{Sub, taken-sets, taken-keeps, taken-cases, possible-true, possible-on, possible-needs, possible-more, canTake-none, canTake-cons, canTake-below, canTake-first, canTake-rest, after-append, canTake-append, possible-ignoring, way-to-goal}
@@ -190,17 +190,13 @@ module _ (t : Task) where
 module _ (t : Task) (P : Set) where
   -- such a step can be taken exactly if it can be and is none of P
   possible-without : (X : Set) (s : ℕ) → Is (possible t X s) → P s ≡ false → Is (possible (ignoringClears (without t P)) X s)
-  unfolding removed
   possible-without X s p h =
-      possible-true (ignoringClears (without t P)) X s (both-true (no (P s)) (t .on s) (no-true (P s) h) (possible-on t X s p)) (possible-needs t X s p)
+      possible-true (ignoringClears (without t P)) X s (removed-true (t .on) P s (possible-on t X s p) h) (possible-needs t X s p)
 
   possible-with : (X : Set) (s : ℕ) → Is (possible (ignoringClears (without t P)) X s) → Is (possible t X s) × (P s ≡ false)
-  unfolding removed
   possible-with X s p =
-      let on = possible-on (ignoringClears (without t P)) X s p in (
-        possible-true t X s (both-r (no (P s)) (t .on s) on) (possible-needs (ignoringClears (without t P)) X s p),
-        no-false (P s) (both-l (no (P s)) (t .on s) on),
-      )
+      let on = removed-at (t .on) P s (possible-on (ignoringClears (without t P)) X s p) in
+      (possible-true t X s (on .0) (possible-needs (ignoringClears (without t P)) X s p), on .1)
 
   after-without : (w : List ℕ) (X : Set) → after (ignoringClears (without t P)) X w ≡ after (ignoringClears t) X w
   unfolding after taking

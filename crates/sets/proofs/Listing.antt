@@ -1,19 +1,19 @@
 -- Listing a set lowest first visits each member once, in order: by induction on the bound, where the list of the members below n + 1 ends in n or not.
 -- So a loop that takes the lowest member out until none is left goes through `members` from its first to its last.
 use Prim.Native.Nat.{ℕ, zero, suc, _*_, _<_}
-use mathlib.Core.Path.{_≡_, refl, sym, ap, _∙_}
+use mathlib.Core.Path.{_≡_, refl, sym, ap, _∙_, fun-ext}
 use mathlib.Core.Bool.{false}
-use mathlib.Core.Logic.{inl, inr, _↔_}
+use mathlib.Core.Logic.{_⊎_, inl, inr, _↔_}
 use mathlib.Core.List.{List, [], _∷_, _++_, append-nil, List·Memᴰ, List·Memᴰ·head, List·Memᴰ·tail, List·Memᴰ·not-nil, List·Memᴰ·append-cases, List·Memᴰ·eq-of-singleton, Memᴰ·append-left, Memᴰ·append-right}
 use native.Mathlib.Nat.{not-suc-le-zero}
 use native.Mathlib.Omega.{arith}
 use lib.ListN.{length, length-append}
-use Rattle.sets.specs.Tests.{Is}
-use Rattle.sets.specs.Sets.{Set, dropped, one, count, lowest, members}
-use Rattle.sets.proofs.Tests.{tell, pick-true, pick-false}
+use Rattle.sets.specs.Tests.{Is, no, both, same}
+use Rattle.sets.specs.Sets.{Set, dropped, removed, one, count, lowest, members}
+use Rattle.sets.proofs.Tests.{tell, fails, not-both-ways, both-r, same-at, same-not, pick-true, pick-false}
 use Rattle.sets.specs.Words.{has, wordsOf}
-use Rattle.sets.proofs.Sets.{last, dropped-itself, dropped-other, count-same, count-dropped, lowest-is}
-use Rattle.sets.proofs.Words.{has-made}
+use Rattle.sets.proofs.Sets.{last, dropped-itself, dropped-other, removed-true, removed-at, count-same, count-dropped, lowest-is}
+use Rattle.sets.proofs.Words.{has-made, made-has, has-lt, length-words-of}
 
 -- one number further
 members-more : (n : ℕ) (X : Set) → Is (X n) → members (suc n) X ≡ members n X ++ (n ∷ [])
@@ -58,8 +58,13 @@ listing-next n X l = members-first n X (lowest n X) l (lowest-is n X .least) (lo
 pub listing-end : (n : ℕ) (X : Set) → lowest n X ≡ n → members n X ≡ []
 listing-end n X e = members-none n X (λ f l. lowest-is n X .least f (omega arith))
 
--- ---- a turn of a loop that takes the lowest member out: the number is a member, and one fewer is left
+-- ---- a turn of a loop that takes the lowest member out
 
+-- none is left
+pub listing-none : (k : ℕ) (a : List ℕ) (f : ℕ) → f ≡ lowest (k * 64) (has a) → f ≡ k * 64 → (g : ℕ) → g < k * 64 → has a g ≡ false
+listing-none k a f found e g l = lowest-is (k * 64) (has a) .least g (omega arith)
+
+-- the number is a member, and one fewer is left
 module _ (k : ℕ) (a b : List ℕ) (f : ℕ) (found : f ≡ lowest (k * 64) (has a)) (some : ¬ (f ≡ k * 64)) where
   pub listing-below : f < k * 64
   listing-below = omega (arith, lowest-is (k * 64) (has a) .most)
@@ -67,13 +72,82 @@ module _ (k : ℕ) (a b : List ℕ) (f : ℕ) (found : f ≡ lowest (k * 64) (ha
   pub listing-member : Is (has a f)
   listing-member = rw found (lowest-is (k * 64) (has a) .member (rw found at listing-below))
 
-  pub listing-less : b ≡ wordsOf k (dropped (has a) f) → count (k * 64) (has b) < count (k * 64) (has a)
-  listing-less rest =
-      omega (
-        arith,
-        count-same (k * 64) (has b) (dropped (has a) f) (has-made k b (dropped (has a) f) rest),
-        count-dropped (k * 64) (has a) f listing-below listing-member,
-      )
+  module _ (rest : b ≡ wordsOf k (dropped (has a) f)) where
+    pub listing-less : count (k * 64) (has b) < count (k * 64) (has a)
+    listing-less =
+        omega (
+          arith,
+          count-same (k * 64) (has b) (dropped (has a) f) (has-made k b (dropped (has a) f) rest),
+          count-dropped (k * 64) (has a) f listing-below listing-member,
+        )
+
+    listing-gone : has b f ≡ false
+    listing-gone = has-made k b _ rest f listing-below ∙ dropped-itself (has a) f f refl
+
+    -- what is left was so before
+    pub listing-kept : (g : ℕ) → Is (has b g) → Is (has a g)
+    unfolding dropped
+    listing-kept g h = both-r (no (same g f)) (has a g) (made-has k b _ rest g h)
+
+    -- and what was left is the number, or is left still
+    pub listing-cases : (g : ℕ) → g < k * 64 → Is (has a g) → (g ≡ f) ⊎ Is (has b g)
+    listing-cases g l h =
+        elim (tell (same g f)) [
+          | inl e ↦ inl (same-at g f e)
+          | inr d ↦ inr (has-made k b _ rest g l ∙ dropped-other (has a) f g (same-not g f d) ∙ h)
+        ]
+
+-- ---- such a loop over the members of X: k words of them are left, and `removed X (has left)` has been gone through
+
+pub record Left (k : ℕ) (X : Set) (left : List ℕ) : Type 0 where
+  pub size : length left ≡ k
+  pub inside : (f : ℕ) → Is (has left f) → Is (X f)
+
+pub left-made : (k : ℕ) (X : Set) (a : List ℕ) → a ≡ wordsOf k X → Left k X a
+left-made k X a e = record { size = ap length e ∙ length-words-of k X; inside = made-has k a X e }
+
+pub left-all : (k : ℕ) (a : List ℕ) → length a ≡ k → Left k (has a) a
+left-all k a e = record { size = e; inside = λ f h. h }
+
+-- nothing has been gone through yet
+pub through-none : (X : Set) (a : List ℕ) → ((g : ℕ) → Is (X g) → Is (has a g)) → (f : ℕ) → removed X (has a) f ≡ false
+through-none X a all f = fails _ (λ h. let r = removed-at X (has a) f h in not-both-ways (all f (r .0)) (r .1))
+
+module _ (k : ℕ) (X : Set) (a : List ℕ) {f : ℕ} (left : Left k X a) (found : f ≡ lowest (k * 64) (has a)) where
+  -- all of X has been
+  pub through-all : f ≡ k * 64 → removed X (has a) ≡ X
+  unfolding removed both no
+  through-all e =
+      fun-ext (λ g. let out : has a g ≡ false = fails (has a g) (λ h.
+      not-both-ways h (listing-none k a f found e g (omega (arith, has-lt a g h, left .size)))) in rw out)
+
+  module _ (b : List ℕ) (some : ¬ (f ≡ k * 64)) (rest : b ≡ wordsOf k (dropped (has a) f)) where
+    pub left-next : Left k X b
+    left-next = record {
+      size = ap length rest ∙ length-words-of k _;
+      inside = λ g h. left .inside g (listing-kept k a b f found some rest g h);
+    }
+
+    -- what had been gone through, and the number
+    pub through-itself : Is (removed X (has b) f)
+    through-itself =
+        removed-true X (has b) f (left .inside f (listing-member k a b f found some)) (listing-gone k a b f found some rest)
+
+    pub through-kept : (g : ℕ) → Is (removed X (has a) g) → Is (removed X (has b) g)
+    through-kept g h =
+        let r = removed-at X (has a) g h in
+        removed-true X (has b) g (r .0) (fails (has b g) (λ l. not-both-ways (listing-kept k a b f found some rest g l) (r .1)))
+
+    pub through-cases : (g : ℕ) → Is (removed X (has b) g) → (g ≡ f) ⊎ Is (removed X (has a) g)
+    through-cases g h =
+        let r = removed-at X (has b) g h in
+        elim (tell (has a g)) [
+          | inl l ↦ elim (listing-cases k a b f found some rest g (omega (arith, has-lt a g l, left .size)) l) [
+            | inl e ↦ inl e
+            | inr m ↦ not-both-ways m (r .1)
+          ]
+          | inr l ↦ inr (removed-true X (has a) g (r .0) l)
+        ]
 
 -- ---- which numbers are listed, and how many
 

@@ -184,22 +184,50 @@ table-of-same k zero R S h = refl
 table-of-same k (suc n) R S h =
     ap₂ (λ (s t : List ℕ). s ++ t) (table-of-same k n R S (λ i f l. h i f (omega arith))) (words-of-same k (R n) (S n) (λ f. h n f (omega arith)))
 
--- the first n rows of a table that stand for the sets R 0 .. R (n - 1) are their table
-pub table-front : (k n : ℕ) (ws : List ℕ) (R : ℕ → Set) → n * k ≤ length ws → Words ws
-    → ((i f : ℕ) → i < n → f < k * 64 → has (row k i ws) f ≡ R i f) → take (n * k) ws ≡ tableOf k n R
+-- the first n rows of a table that are the words of the sets R 0 .. R (n - 1) are their table
+front-of-rows : (k n : ℕ) (ws : List ℕ) (R : ℕ → Set) → ((i : ℕ) → i < n → row k i ws ≡ wordsOf k (R i)) → take (n * k) ws ≡ tableOf k n R
 unfolding tableOf row
-table-front k zero ws R h v q = ap (λ (m : ℕ). take m ws) (zero-mul k)
-table-front k (suc n) ws R h v q =
+front-of-rows k zero ws R q = ap (λ (m : ℕ). take m ws) (zero-mul k)
+front-of-rows k (suc n) ws R q =
     ap (λ (m : ℕ). take m ws) (suc-mul n k)
     ∙ take-add (n * k) k ws
-    ∙ ap₂ (λ (s t : List ℕ). s ++ t)
-    (table-front k n ws R (omega (arith, suc-mul n k)) v (λ i f l. q i f (omega arith)))
-    (words-only k (row k n ws) (R n) (row-whole k n ws (omega (arith, suc-mul n k))) (row-fit k n ws v) (λ f. q n f (omega arith)))
+    ∙ ap₂ (λ (s t : List ℕ). s ++ t) (front-of-rows k n ws R (λ i l. q i (omega arith))) (q n (omega arith))
+
+-- so are rows that stand for those sets
+pub table-front : (k n : ℕ) (ws : List ℕ) (R : ℕ → Set) → n * k ≤ length ws → Words ws
+    → ((i f : ℕ) → i < n → f < k * 64 → has (row k i ws) f ≡ R i f) → take (n * k) ws ≡ tableOf k n R
+table-front k n ws R h v q =
+    front-of-rows k n ws R (λ i l.
+    words-only k (row k i ws) (R i) (row-whole k i ws (omega (arith, rows-apart k i n l))) (row-fit k i ws v) (λ f. q i f l))
 
 -- a table of n rows that stand for those sets is their table
 pub table-only : (k n : ℕ) (ws : List ℕ) (R : ℕ → Set) → length ws ≡ n * k → Words ws
     → ((i f : ℕ) → i < n → f < k * 64 → has (row k i ws) f ≡ R i f) → ws ≡ tableOf k n R
 table-only k n ws R e v q = sym (take-all (n * k) ws (omega arith)) ∙ table-front k n ws R (omega arith) v q
+
+-- ---- a table whose first n rows are written, and the words that follow them
+
+-- it is one that has those rows and those words
+pub table-with-rest : (k n : ℕ) (table rest : List ℕ) (R : ℕ → Set) → ((i : ℕ) → i < n → row k i table ≡ wordsOf k (R i))
+    → drop (n * k) table ≡ rest → table ≡ tableOf k n R ++ rest
+table-with-rest k n table rest R h e =
+    sym (take-append-drop (n * k) table) ∙ ap₂ (λ (s t : List ℕ). s ++ t) (front-of-rows k n table R h) e
+
+-- its rows are read back
+pub row-of-written : (k n : ℕ) (R : ℕ → Set) (rest : List ℕ) {table : List ℕ} → table ≡ tableOf k n R ++ rest → (i : ℕ) → i < n
+    → row k i table ≡ wordsOf k (R i)
+row-of-written k n R rest e i l =
+    ap (row k i) e ∙ row-front k i (tableOf k n R) rest (omega (arith, length-table-of k n R, rows-apart k i n l)) ∙ row-table-of k n R i l
+
+-- and so are the words that follow
+pub rest-of-written : (k n : ℕ) (R : ℕ → Set) (rest : List ℕ) {table : List ℕ} → table ≡ tableOf k n R ++ rest → drop (n * k) table ≡ rest
+rest-of-written k n R rest e = ap (drop (n * k)) e ∙ drop-at (tableOf k n R) rest (n * k) (length-table-of k n R)
+
+-- as long as before, where there was room for the rows
+pub length-of-written : (k n : ℕ) (R : ℕ → Set) (first : List ℕ) {table : List ℕ} → n * k ≤ length first
+    → table ≡ tableOf k n R ++ drop (n * k) first → length table ≡ length first
+length-of-written k n R first h e =
+    ap length e ∙ length-append (tableOf k n R) (drop (n * k) first) ∙ omega (arith, length-table-of k n R, length-drop (n * k) first)
 
 -- ---- the loop that writes a row over the words of start from at on, word by word: the first i are written
 

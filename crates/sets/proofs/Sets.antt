@@ -1,15 +1,14 @@
 -- Laws of the questions asked of a set below a bound: by induction on the bound, where a number below n + 1 is n or is below n.
-use Prim.Native.Nat.{ℕ, zero, suc, _+_, _-_, _*_, _≤_, _<_, zero-le, suc-le-suc}
-use mathlib.Core.Path.{_≡_, refl, sym, ap, ap₂, _∙_, subst}
+use Prim.Native.Nat.{ℕ, zero, suc, _+_, _≤_, _<_, zero-le}
+use mathlib.Core.Path.{_≡_, refl, sym, ap, ap₂, _∙_}
 use mathlib.Core.Bool.{Bool, true, false}
-use mathlib.Core.Logic.{_⊎_, inl, inr, _↔_}
-use mathlib.Core.List.{List, [], _∷_, _++_, append-assoc, append-nil}
+use mathlib.Core.Logic.{_⊎_, inl, inr}
 use native.Mathlib.Nat.{not-suc-le-zero, le-of-suc-le-suc, eq-or-lt-of-le}
 use native.Mathlib.Numerals.{add-one}
 use native.Mathlib.Omega.{arith}
 use Rattle.sets.specs.Tests.{Is, no, both, either, implies, below, same, pick}
-use Rattle.sets.specs.Sets.{Set, none, upTo, added, dropped, joined, met, removed, all, any, within, one, count, lowest, members}
-use Rattle.sets.proofs.Tests.{not-is, tell, fails, not-both-ways, equal-tests, both-l, both-r, both-true, either-l, either-r, either-cases, no-true, no-false, implies-true, implies-at, below-true, below-at, below-false, below-not, same-true, same-at, same-false, compare, pick-true, pick-false}
+use Rattle.sets.specs.Sets.{Set, added, dropped, removed, all, any, within, one, count, lowest}
+use Rattle.sets.proofs.Tests.{not-is, tell, fails, not-both-ways, equal-tests, both-l, both-r, both-true, either-l, either-r, either-cases, no-true, no-false, implies-true, implies-at, below-at, below-not, same-true, same-at, same-false, compare, pick-true, pick-false}
 
 -- a number below n + 1 is n or is below n
 pub last : (n i : ℕ) → i < suc n → (i ≡ n) ⊎ (i < n)
@@ -35,6 +34,15 @@ dropped-itself X f g e = rw (same-true g f e)
 pub dropped-other : (X : Set) (f g : ℕ) → ¬ (g ≡ f) → dropped X f g ≡ X g
 unfolding dropped both no
 dropped-other X f g d = rw (same-false g f d)
+
+-- in X and not in Y
+pub removed-true : (X Y : Set) (f : ℕ) → Is (X f) → Y f ≡ false → Is (removed X Y f)
+unfolding removed
+removed-true X Y f x y = both-true (no (Y f)) (X f) (no-true (Y f) y) x
+
+pub removed-at : (X Y : Set) (f : ℕ) → Is (removed X Y f) → Is (X f) × (Y f ≡ false)
+unfolding removed
+removed-at X Y f h = (both-r (no (Y f)) (X f) h, no-false (Y f) (both-l (no (Y f)) (X f) h))
 
 -- ---- every, some
 

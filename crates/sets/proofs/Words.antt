@@ -1,21 +1,21 @@
 -- Laws of sets as lists of words, of any length: a word's bits are laws of Bits, and number f stands in word f / 64 as bit f % 64.
 use Prim.Native.Nat.{ℕ, zero, suc, _+_, _-_, _*_, _/_, _%_, _^_, _≤_, _<_}
-use mathlib.Core.Path.{_≡_, refl, sym, ap, ap₂, _∙_, subst}
+use mathlib.Core.Path.{_≡_, refl, sym, ap, ap₂, _∙_, subst, fun-ext}
 use mathlib.Core.Bool.{Bool, false}
 use mathlib.Core.Logic.{inl, inr}
 use mathlib.Core.List.{List, [], _∷_}
-use native.Mathlib.Nat.{mod-eq-of-lt, div-eq-of-lt, add-div-left, add-mod-left}
+use native.Mathlib.Nat.{zero-mul, mod-eq-of-lt, div-eq-of-lt, add-div-left, add-mod-left}
 use native.Mathlib.Numerals.{add-one}
 use native.Mathlib.Omega.{arith}
 use lib.Dec.{lit<}
 use lib.Arith.{digits-div, digits-mod}
 use lib.Count.{ones}
-use lib.ListN.{length, getD, drop, length-take, length-drop, List·getD-eq-default}
-use lib.Seq.{ext-getD, getD-take, getD-drop}
+use lib.ListN.{length, getD, take, drop, length-take, length-drop, List·getD-eq-default}
+use lib.Seq.{take-all, ext-getD, getD-take, getD-drop}
 use Rattle.sets.specs.Tests.{Is, both, below}
-use Rattle.sets.specs.Sets.{Set, within, count}
+use Rattle.sets.specs.Sets.{Set, none, within, count}
 use Rattle.sets.specs.Words.{bit, has, wordOf, wordsOf, row, Words}
-use Rattle.sets.proofs.Tests.{not-both-ways, both-r, below-true, below-false, below-iff, compare}
+use Rattle.sets.proofs.Tests.{not-is, fails, not-both-ways, both-r, below-true, below-false, below-iff, compare}
 use Rattle.sets.proofs.Sets.{within-same, count-same, count-add}
 use Rattle.sets.proofs.Bits.{bit-of-zero, word-ext, bit-word-of, word-of-lt, ones-count}
 
@@ -109,6 +109,22 @@ has-made k ws X e f l = ap (λ (l : List ℕ). has l f) e ∙ has-of k X f l
 pub made-has : (k : ℕ) (ws : List ℕ) (X : Set) → ws ≡ wordsOf k X → (f : ℕ) → Is (has ws f) → Is (X f)
 made-has k ws X e f h = both-r (below f (k * 64)) (X f) (sym (has-words-of k X f) ∙ ap (λ (l : List ℕ). has l f) (sym e) ∙ h)
 
+-- words made of a set are those of their own members
+pub whole-made : (k : ℕ) (ws : List ℕ) (X : Set) → ws ≡ wordsOf k X → ws ≡ wordsOf k (has ws)
+whole-made k ws X e = e ∙ words-of-same k X (has ws) (λ f l. sym (has-made k ws X e f l))
+
+-- words made of a set that has no member past them have its members and no others
+pub set-made : (k : ℕ) (ws : List ℕ) (X : Set) → ws ≡ wordsOf k X → ((f : ℕ) → Is (X f) → f < k * 64) → has ws ≡ X
+set-made k ws X e only =
+    fun-ext (λ f. elim (compare f (k * 64)) [
+      | inl l ↦ has-made k ws X e f l
+      | inr l ↦ ap (λ (l : List ℕ). has l f) e ∙ has-of-past k X f l ∙ sym (fails (X f) (λ h. omega (arith, only f h)))
+    ])
+
+pub none-read : (k : ℕ) {ws : List ℕ} → ws ≡ wordsOf k none → has ws ≡ none
+unfolding none
+none-read k {ws} e = set-made k ws none e (λ f h. not-is h)
+
 -- a question asked of words is asked of the sets that they were made of
 pub within-made : (k : ℕ) (a b : List ℕ) (X Y : Set) → a ≡ wordsOf k X → b ≡ wordsOf k Y → within (k * 64) (has a) (has b) ≡ within (k * 64) X Y
 within-made k a b X Y d e = within-same (k * 64) (has a) (has b) X Y (has-made k a X d) (has-made k b Y e)
@@ -149,6 +165,16 @@ has-row k i t f l =
 -- a member of a row stands below k * 64
 pub row-lt : (k i : ℕ) (t : List ℕ) (f : ℕ) → Is (has (row k i t) f) → f < k * 64
 row-lt k i t f h = omega (arith, has-lt (row k i t) f h, row-most k i t)
+
+-- a row that was read is the row
+pub row-read : (k i : ℕ) (t : List ℕ) {read : List ℕ} → read ≡ wordsOf k (has (row k i t)) → has read ≡ has (row k i t)
+row-read k i t {read} e = set-made k read _ e (row-lt k i t)
+
+-- a table of k words is its one row
+pub set-read : (k : ℕ) (ws : List ℕ) {read : List ℕ} → length ws ≡ k → read ≡ wordsOf k (has (row k 0 ws)) → has read ≡ has ws
+unfolding row
+set-read k ws size e =
+    row-read k 0 ws e ∙ ap has (ap (λ (m : ℕ). take k (drop m ws)) (zero-mul k) ∙ take-all k ws (omega arith))
 
 pub row-fit : (k i : ℕ) (t : List ℕ) → Words t → Words (row k i t)
 row-fit k i t w j =
