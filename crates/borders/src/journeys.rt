@@ -1,14 +1,11 @@
 // Reach and replay of small tasks and of the longest: what document 01 says of each, a line a case.
 use crate::line;
+use crate::tasks::COSTS;
+use crate::tasks::NEEDS;
+use crate::tasks::SETS;
 use replay::Replayed;
 use sets::Facts;
 use task::Task;
-
-// Document 01's first task: badge read 0, project picked 1, project set 2, tube racked 3, spectrum
-// filed 4; step 2 carries a project over.
-const NEEDS: [u64; 20] = [0, 0, 0, 0, 1, 0, 0, 0, 1, 0, 0, 0, 1, 0, 0, 0, 12, 0, 0, 0];
-
-const SETS: [u64; 20] = [1, 0, 0, 0, 6, 0, 0, 0, 4, 0, 0, 0, 8, 0, 0, 0, 16, 0, 0, 0];
 
 // Writes what a replay answered.
 fn replayed(answer: Replayed) {
@@ -48,17 +45,16 @@ fn reach_line(task: Task, needs: &[u64], sets: &[u64], costs: &[u32], start: &[u
 // The first task's reach, from no fact and from fact 2.
 pub fn first_reach() {
     let task = Task { facts: 5, steps: 5 };
-    let costs = [1u32, 3, 1, 2, 1];
     line::say(b"first task");
-    reach_line(task, &NEEDS, &SETS, &costs, &[0, 0, 0, 0]);
+    reach_line(task, &NEEDS, &SETS, &COSTS, &[0, 0, 0, 0]);
     line::say(b"first task from 2");
-    reach_line(task, &NEEDS, &SETS, &costs, &[4, 0, 0, 0]);
+    reach_line(task, &NEEDS, &SETS, &COSTS, &[4, 0, 0, 0]);
     line::say(b"first task without its last fact");
     reach_line(
         Task { facts: 4, steps: 5 },
         &NEEDS,
         &SETS,
-        &costs,
+        &COSTS,
         &[0, 0, 0, 0],
     );
 }
@@ -67,7 +63,6 @@ pub fn first_reach() {
 fn first_walk(walk: &[u16]) {
     let task = Task { facts: 5, steps: 5 };
     let none = [0u64; 20];
-    let costs = [1u32, 3, 1, 2, 1];
     line::say(b"first task, walk of");
     line::tell(walk.len() as u64);
     replayed(replay::replay(
@@ -75,7 +70,7 @@ fn first_walk(walk: &[u16]) {
         &NEEDS,
         &SETS,
         &none,
-        &costs,
+        &COSTS,
         &[0, 0, 0, 0],
         &[16, 0, 0, 0],
         walk,

@@ -1,20 +1,12 @@
 // What no way does without, in document 01's examples P1 to P10, a line a case.
 use crate::line;
+use crate::tasks::COSTS;
+use crate::tasks::COSTS_001;
+use crate::tasks::NEEDS;
+use crate::tasks::NEEDS_001;
+use crate::tasks::SETS;
+use crate::tasks::SETS_001;
 use task::Task;
-
-// Document 01's first task, by step: what it needs and what it sets.
-const NEEDS: [u64; 20] = [0, 0, 0, 0, 1, 0, 0, 0, 1, 0, 0, 0, 1, 0, 0, 0, 12, 0, 0, 0];
-
-const SETS: [u64; 20] = [1, 0, 0, 0, 6, 0, 0, 0, 4, 0, 0, 0, 8, 0, 0, 0, 16, 0, 0, 0];
-
-const COSTS: [u32; 5] = [1, 3, 1, 2, 1];
-
-// The task of source document 001.
-const NEEDS_001: [u64; 16] = [1, 0, 0, 0, 1, 0, 0, 0, 1, 0, 0, 0, 14, 0, 0, 0];
-
-const SETS_001: [u64; 16] = [6, 0, 0, 0, 10, 0, 0, 0, 12, 0, 0, 0, 16, 0, 0, 0];
-
-const COSTS_001: [u32; 4] = [3, 4, 5, 0];
 
 // The must-pass facts and steps of a task; its steps clear all that they set, which makes no
 // difference.

@@ -1,10 +1,12 @@
 // Prints what the library answers at the borders that document 01 names, a line for each case. The
 // expected lines, in the file stdout, were worked out from document 01.
+mod bounds;
 mod cases;
 mod journeys;
 mod landmarks;
 mod line;
 mod measures;
+mod tasks;
 
 // The first number, both sides of each word's border, the last, and one past the last.
 fn facts() {
@@ -111,4 +113,5 @@ fn main() {
     measures::distances();
     landmarks::must_pass();
     landmarks::rows();
+    bounds::rounds();
 }

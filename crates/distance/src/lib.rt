@@ -105,7 +105,7 @@ pub fn set_distance(table: &[u32], set: Facts) -> u32
 }
 
 // The number at f of a table.
-fn entry_at(table: &[u32], f: usize) -> u32
+pub fn entry_at(table: &[u32], f: usize) -> u32
     ensures { λ r. ⌜ r ≡ entry (now (table .entry)) f ⌝ }
 {
     if f < table.len() { table[f] } else { 0 }
