@@ -73,107 +73,69 @@ fn each_cut(rows: &[u64], rounds: usize) {
     line::end();
 }
 
-// P1 to P9, and tables that are too short.
-pub fn rounds() {
-    let first = Task { facts: 5, steps: 5 };
-    let second = Task { facts: 5, steps: 4 };
+// The rounds of the first task, of 5 facts and 5 steps.
+fn first_task(start: u64, goal: u64, words: usize, numbers: usize) {
+    let task = Task { facts: 5, steps: 5 };
+    let from = [start, 0, 0, 0];
+    let to = [goal, 0, 0, 0];
+    cut_lines(task, &NEEDS, &SETS, &COSTS, &from, &to, words, numbers);
+}
+
+// The rounds of the task of 001, of 5 facts and 4 steps.
+fn task_001(start: u64, goal: u64, words: usize, numbers: usize) {
+    let task = Task { facts: 5, steps: 4 };
+    let from = [start, 0, 0, 0];
+    let to = [goal, 0, 0, 0];
+    cut_lines(
+        task,
+        &NEEDS_001,
+        &SETS_001,
+        &COSTS_001,
+        &from,
+        &to,
+        words,
+        numbers,
+    );
+}
+
+// Two steps without needs, which cost 2 and 3 and both set the goal.
+fn two_steps(words: usize, numbers: usize) {
+    let task = Task { facts: 1, steps: 2 };
+    let none = [0u64; 8];
+    let one = [1u64, 0, 0, 0, 1, 0, 0, 0];
+    let from = [0u64; 4];
+    let to = [1u64, 0, 0, 0];
+    cut_lines(task, &none, &one, &[2, 3], &from, &to, words, numbers);
+}
+
+// No steps, and a goal fact that is not in the start.
+fn no_steps() {
+    let task = Task { facts: 2, steps: 0 };
+    cut_lines(task, &[], &[], &[], &[1, 0, 0, 0], &[2, 0, 0, 0], 0, 0);
+}
+
+// P1 to P9.
+pub fn examples() {
     line::say(b"P1 to P4");
-    cut_lines(
-        first,
-        &NEEDS,
-        &SETS,
-        &COSTS,
-        &[0, 0, 0, 0],
-        &[16, 0, 0, 0],
-        80,
-        5,
-    );
+    first_task(0, 16, 80, 5);
     line::say(b"P5, P6");
-    cut_lines(
-        second,
-        &NEEDS_001,
-        &SETS_001,
-        &COSTS_001,
-        &[1, 0, 0, 0],
-        &[16, 0, 0, 0],
-        64,
-        5,
-    );
+    task_001(1, 16, 64, 5);
     line::say(b"P7");
-    cut_lines(
-        first,
-        &NEEDS,
-        &SETS,
-        &COSTS,
-        &[6, 0, 0, 0],
-        &[4, 0, 0, 0],
-        80,
-        5,
-    );
+    first_task(6, 4, 80, 5);
     line::say(b"P8");
-    cut_lines(
-        Task { facts: 2, steps: 0 },
-        &[],
-        &[],
-        &[],
-        &[1, 0, 0, 0],
-        &[2, 0, 0, 0],
-        0,
-        0,
-    );
+    no_steps();
     line::say(b"P9");
-    cut_lines(
-        Task { facts: 1, steps: 2 },
-        &[0; 8],
-        &[1, 0, 0, 0, 1, 0, 0, 0],
-        &[2, 3],
-        &[0, 0, 0, 0],
-        &[1, 0, 0, 0],
-        33,
-        3,
-    );
+    two_steps(33, 3);
+}
+
+// Tables that are too short, and no way.
+pub fn refusals() {
     line::say(b"one word too few");
-    cut_lines(
-        first,
-        &NEEDS,
-        &SETS,
-        &COSTS,
-        &[0, 0, 0, 0],
-        &[16, 0, 0, 0],
-        79,
-        5,
-    );
+    first_task(0, 16, 79, 5);
     line::say(b"one cost too few");
-    cut_lines(
-        first,
-        &NEEDS,
-        &SETS,
-        &COSTS,
-        &[0, 0, 0, 0],
-        &[16, 0, 0, 0],
-        80,
-        4,
-    );
+    first_task(0, 16, 80, 4);
     line::say(b"no way and one word too few");
-    cut_lines(
-        second,
-        &NEEDS_001,
-        &SETS_001,
-        &COSTS_001,
-        &[0, 0, 0, 0],
-        &[16, 0, 0, 0],
-        63,
-        5,
-    );
+    task_001(0, 16, 63, 5);
     line::say(b"no way");
-    cut_lines(
-        second,
-        &NEEDS_001,
-        &SETS_001,
-        &COSTS_001,
-        &[0, 0, 0, 0],
-        &[16, 0, 0, 0],
-        64,
-        5,
-    );
+    task_001(0, 16, 64, 5);
 }

@@ -24,62 +24,65 @@ fn must_line(task: Task, needs: &[u64], sets: &[u64], costs: &[u32], start: &[u6
     line::end();
 }
 
-// P1 to P10.
-pub fn must_pass() {
-    line::say(b"P1 to P4");
-    must_line(
-        Task { facts: 5, steps: 5 },
-        &NEEDS,
-        &SETS,
-        &COSTS,
-        &[0, 0, 0, 0],
-        &[16, 0, 0, 0],
-    );
-    line::say(b"P5, P6");
-    must_line(
-        Task { facts: 5, steps: 4 },
-        &NEEDS_001,
-        &SETS_001,
-        &COSTS_001,
-        &[1, 0, 0, 0],
-        &[16, 0, 0, 0],
-    );
-    line::say(b"P7");
-    must_line(
-        Task { facts: 5, steps: 5 },
-        &NEEDS,
-        &SETS,
-        &COSTS,
-        &[6, 0, 0, 0],
-        &[4, 0, 0, 0],
-    );
-    line::say(b"P8");
-    must_line(
-        Task { facts: 2, steps: 0 },
-        &[],
-        &[],
-        &[],
-        &[1, 0, 0, 0],
-        &[2, 0, 0, 0],
-    );
+// The first task, of 5 facts and 5 steps.
+fn first_task(start: u64, goal: u64) {
+    let task = Task { facts: 5, steps: 5 };
+    let from = [start, 0, 0, 0];
+    let to = [goal, 0, 0, 0];
+    must_line(task, &NEEDS, &SETS, &COSTS, &from, &to);
+}
+
+// The task of 001, of 5 facts and 4 steps.
+fn task_001(start: u64, goal: u64) {
+    let task = Task { facts: 5, steps: 4 };
+    let from = [start, 0, 0, 0];
+    let to = [goal, 0, 0, 0];
+    must_line(task, &NEEDS_001, &SETS_001, &COSTS_001, &from, &to);
+}
+
+// Two steps without needs that both set the goal; then one that sets the goal and one fact more.
+fn without_needs() {
+    let none = [0u64; 8];
+    let both = [1u64, 0, 0, 0, 1, 0, 0, 0];
+    let from = [0u64; 4];
+    let to = [1u64, 0, 0, 0];
     line::say(b"P9");
     must_line(
         Task { facts: 1, steps: 2 },
-        &[0; 8],
-        &[1, 0, 0, 0, 1, 0, 0, 0],
+        &none,
+        &both,
         &[2, 3],
-        &[0, 0, 0, 0],
-        &[1, 0, 0, 0],
+        &from,
+        &to,
     );
     line::say(b"P10");
     must_line(
         Task { facts: 2, steps: 1 },
-        &[0, 0, 0, 0],
+        &[0; 4],
         &[3, 0, 0, 0],
         &[1],
-        &[0, 0, 0, 0],
-        &[1, 0, 0, 0],
+        &from,
+        &to,
     );
+}
+
+// No steps, and a goal fact that is not in the start.
+fn no_steps() {
+    let task = Task { facts: 2, steps: 0 };
+    must_line(task, &[], &[], &[], &[1, 0, 0, 0], &[2, 0, 0, 0]);
+}
+
+// P1 to P10.
+pub fn must_pass() {
+    line::say(b"P1 to P4");
+    first_task(0, 16);
+    line::say(b"P5, P6");
+    task_001(1, 16);
+    line::say(b"P7");
+    first_task(6, 4);
+    line::say(b"P8");
+    no_steps();
+    without_needs();
 }
 
 // The rows of the first task, into a table of so many words, which held 7 each.

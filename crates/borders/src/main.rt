@@ -113,5 +113,6 @@ fn main() {
     measures::distances();
     landmarks::must_pass();
     landmarks::rows();
-    bounds::rounds();
+    bounds::examples();
+    bounds::refusals();
 }

@@ -44,13 +44,13 @@ module _ (off : Set) {n : ℕ} {need sets costs rows prices : List ℕ} {start g
         (begun ∙ ap (λ (k : ℕ). listOf k (λ f. pick (start f) 0 (limits .mark))) long) here
         ∙ sym (rows-distances n (length costs) need sets off start goal (entry costs) (limits .mark))
 
-    pub begun-settled : Settled (roundTask (length table₂) (length left) need sets off start goal) left table₂
+    begun-settled : Settled (roundTask (length table₂) (length left) need sets off start goal) left table₂
     begun-settled = rw (table-long, copied) settled
 
-    pub begun-due : RoundsDue (costTask (length table₂) (length left) need sets off start goal left) rows prices left
+    begun-due : RoundsDue (costTask (length table₂) (length left) need sets off start goal left) rows prices left
     begun-due = rw (table-long, copied) due
 
-    pub begun-rows : {m : ℕ} {counts : List ℕ} → m ≡ length costs → counts ≡ wordsOf 16 (countedFrom m need off (has reached))
+    begun-rows : {m : ℕ} {counts : List ℕ} → m ≡ length costs → counts ≡ wordsOf 16 (countedFrom m need off (has reached))
         → RoundRows (length table₂) (length left) need sets off start goal counts
     begun-rows {m} {counts} many counted =
         rw (table-long, copied)
@@ -65,6 +65,15 @@ module _ (off : Set) {n : ℕ} {need sets costs rows prices : List ℕ} {start g
               (λ f k. has-made 4 reached _ reached-is f (omega (arith, bounds .few))) s
               ∙ sym (counted-joined n (length costs) need sets off start goal (bounds .few) (bounds .needs-below) (bounds .sets-below) _ (λ f k. refl) s));
         }
+
+    -- what the rounds ask of what is begun
+    pub begun-asks : {m : ℕ} {counts : List ℕ} (width : ℕ) → m ≡ length costs → counts ≡ wordsOf 16 (countedFrom m need off (has reached))
+        → width ≡ length costs
+        → RoundRows (length table₂) (length left) need sets off start goal counts
+        × (width ≡ length left)
+        × Settled (roundTask (length table₂) (length left) need sets off start goal) left table₂
+        × RoundsDue (costTask (length table₂) (length left) need sets off start goal left) rows prices left
+    begun-asks width many counted wide = (begun-rows many counted, wide ∙ sym (ap length copied), begun-settled, begun-due)
 
     -- what all rounds then make
     pub begun-done : {rows₁ prices₁ left₁ : List ℕ} {answer : Cutting}

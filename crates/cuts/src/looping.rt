@@ -66,15 +66,15 @@ fn cut_with(
     rows: &mut [u64],
     prices: &mut [u32],
     left: &mut [u32],
-    table: &mut [u32],
+    distances: &mut [u32],
     chosen: &mut [u16],
 ) -> Cutting
-    requires { ⌜ (length (now table) ≡ n) × (length (now chosen) ≡ length (now costs)) × Bounded n (now needs) (now sets) (has (start .words)) × ((f : ℕ) → Is (has (goal .words) f) → f < n) × (length (now left) ≤ 1024) × (length (now left) ≡ length (now costs)) × (reached .words ≡ wordsOf 4 (reach (roundTask n (length (now costs)) (now needs) (now sets) (has (off .words)) (has (start .words)) (has (goal .words))))) × RoundsDue (costTask n (length (now costs)) (now needs) (now sets) (has (off .words)) (has (start .words)) (has (goal .words)) (now costs)) (now rows) (now prices) (now costs) ⌝ }
+    requires { ⌜ (length (now distances) ≡ n) × (length (now chosen) ≡ length (now costs)) × Bounded n (now needs) (now sets) (has (start .words)) × ((f : ℕ) → Is (has (goal .words) f) → f < n) × (length (now left) ≤ 1024) × (length (now left) ≡ length (now costs)) × (reached .words ≡ wordsOf 4 (reach (roundTask n (length (now costs)) (now needs) (now sets) (has (off .words)) (has (start .words)) (has (goal .words))))) × RoundsDue (costTask n (length (now costs)) (now needs) (now sets) (has (off .words)) (has (start .words)) (has (goal .words)) (now costs)) (now rows) (now prices) (now costs) ⌝ }
     ensures { λ r. ⌜ RoundsDone (costTask n (length (now (costs .entry))) (now (needs .entry)) (now (sets .entry)) (has (off .words)) (has (start .words)) (has (goal .words)) (now (costs .entry))) (now (rows .entry)) (now (prices .entry)) (now (rows .exit)) (now (prices .exit)) (now (left .exit)) r ⌝ }
 {
     copy_costs(costs, left);
-    distance::begin_distances(start, table);
-    distance::settle(needs, sets, left, off, table);
+    distance::begin_distances(start, distances);
+    distance::settle(needs, sets, left, off, distances);
     let counted = choosing::counted_steps(left.len(), needs, off, reached);
     cut_rounds(
         needs,
@@ -86,7 +86,7 @@ fn cut_with(
         rows,
         prices,
         left,
-        table,
+        distances,
         chosen,
     )
 }

@@ -36,7 +36,10 @@ loop-less : tie.Need-loop-less Inv-loop μ-loop
 loop-less c = omega arith
 
 loop-again : tie.Need-loop-again Inv-loop μ-loop
-loop-again c = (search needs, search needs, copied-next (c .before .before .before .args .costs .now) (c .before .before .loop .left) (c .before .before .loop .step) (c .before .before .loop .inv .0 ∙ c .before .before .loop .inv .1) (search needs) (c .before .before .loop .inv .2))
+loop-again c =
+    let at-loop = c .before .before in
+    let entry = at-loop .before in
+    (search needs, search needs, copied-next (entry .args .costs .now) (at-loop .loop .left) (at-loop .loop .step) (at-loop .loop .inv .0 ∙ at-loop .loop .inv .1) (search needs) (at-loop .loop .inv .2))
 
 same-length : tie.Need-same-length Inv-loop μ-loop
 same-length c = search needs

@@ -25,7 +25,8 @@ part-chosen-end c = search needs
 
 cut-with-requires : tie.Need-cut-with-requires
 cut-with-requires c κs =
-    (part-long _ _ (c .before .before .before .before .before .before .before .before .before .before .before .pre .0 .few), part-long _ _ (c .before .before .before .before .before .before .before .before .before .before .before .pre .2) ∙ c .before .before .before .before .before .before .before .before .before .before .before .pre .3, c .before .before .before .before .before .before .before .before .before .before .before .pre .0, c .before .before .before .before .before .before .before .before .before .before .before .pre .1, c .before .before .before .before .before .before .before .before .before .before .before .pre .2, c .before .before .before .before .before .before .before .before .before .before .before .pre .3, c .before .before .before .before .before .before .before .before .before .before .before .pre .4, c .before .before .before .before .before .before .before .before .before .before .before .pre .5)
+    let entry = c .before .before .before .before .before .before .before .before .before .before .before in
+    (part-long _ _ (entry .pre .0 .few), part-long _ _ (entry .pre .2) ∙ entry .pre .3, entry .pre .0, entry .pre .1, entry .pre .2, entry .pre .3, entry .pre .4, entry .pre .5)
 
 same-length : tie.Need-same-length
 same-length c = search needs

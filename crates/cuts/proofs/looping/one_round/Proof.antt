@@ -14,15 +14,14 @@ farthest-requires c κs = search needs
 
 cut-before-requires : tie.Need-cut-before-requires
 cut-before-requires c κs =
-    let rows = c .before .before .before .before .before .before .before .before .before .before .before .before .before .before .before .before .pre .0 in
-    let due = c .before .before .before .before .before .before .before .before .before .before .before .before .before .before .before .before .pre .4 in (
-      rows .rows .few,
-      nearest-below rows due (c .before .before .before .before .before .before .before .before .before .before .before .before .before .before .before .before .pre .1) (c .before .before .before .before .before .before .choose-needs .ensures) (c .before .before .farthest .ensures),
-      rows .few-steps,
-      chosen-length rows due (c .before .before .before .before .before .before .before .before .before .before .before .before .before .before .before .before .pre .1) (c .before .before .before .before .before .before .choose-needs .ensures),
-      rows .rows .sets-below,
-      rows .rows .start-below,
-    )
+    let at-farthest = c .before .before in
+    let at-choose-needs = at-farthest .before .before .before .before in
+    let entry = at-choose-needs .before .before .before .before .before .before .before .before .before .before in
+    let rows = entry .pre .0 in let due = entry .pre .4 in
+    let taken = entry .pre .1 in let chosen = at-choose-needs .choose-needs .ensures in
+    let near = nearest-below rows due taken chosen (at-farthest .farthest .ensures) in
+    let full = chosen-length rows due taken chosen in
+    (rows .rows .few, near, rows .few-steps, full, rows .rows .sets-below, rows .rows .start-below)
 
 cheapest-requires : tie.Need-cheapest-requires
 cheapest-requires c κs = search needs
@@ -31,15 +30,22 @@ put-row-requires : tie.Need-put-row-requires
 put-row-requires c κs = search needs
 
 mul-prices : tie.Need-mul-prices
-mul-prices c = omega (arith, c .before .before .before .before .before .before .before .before .before .before .before .before .before .before .before .before .before .before .before .before .before .before .before .pre .2, c .before .before .before .before .before .before .before .before .before .before .before .before .before .before .before .before .before .before .before .before .before .before .before .pre .0 .few-steps)
+mul-prices c =
+    let entry = c .before .before .before .before .before .before .before .before .before .before .before .before .before .before .before .before .before .before .before .before .before .before .before in
+    omega (arith, entry .pre .2, entry .pre .0 .few-steps)
 
 slice-write-prices : tie.Need-slice-write-prices
 slice-write-prices c = search needs
 
 take-off-requires : tie.Need-take-off-requires
 take-off-requires c κs =
-    cost-fits (c .before .before .before .before .before .before .before .before .before .before .before .before .before .before .before .before .before .before .before .before .before .before .before .before .pre .0) (c .before .before .before .before .before .before .before .before .before .before .before .before .before .before .before .before .before .before .before .before .before .before .before .before .pre .4) (c .before .before .before .before .before .before .before .before .before .before .before .before .before .before .before .before .before .before .before .before .before .before .before .before .pre .1) (c .before .before .before .before .before .before .before .before .before .before .before .before .before .before .choose-needs .ensures) (c .before .before .before .before .before .before .before .before .before .before .farthest .ensures)
-    (c .before .before .before .before .before .before .before .cut-before .ensures) (c .before .before .before .before .before .cheapest .ensures)
+    let at-cheapest = c .before .before .before .before .before in
+    let at-cut-before = at-cheapest .before .before in
+    let at-farthest = at-cut-before .before .before .before in
+    let at-choose-needs = at-farthest .before .before .before .before in
+    let entry = at-choose-needs .before .before .before .before .before .before .before .before .before .before in
+    cost-fits (entry .pre .0) (entry .pre .4) (entry .pre .1) (at-choose-needs .choose-needs .ensures) (at-farthest .farthest .ensures)
+    (at-cut-before .cut-before .ensures) (at-cheapest .cheapest .ensures)
 
 settle-requires : tie.Need-settle-requires
 settle-requires c κs = search needs
@@ -61,8 +67,17 @@ same-length-5 c = search needs
 
 returns : tie.Need-returns
 returns c =
-    round-made (c .before .before .before .before .before .before .before .before .before .before .before .before .before .before .before .before .before .before .before .before .before .before .before .before .before .before .before .before .before .before .before .before .pre .0) (c .before .before .before .before .before .before .before .before .before .before .before .before .before .before .before .before .before .before .before .before .before .before .before .before .before .before .before .before .before .before .before .before .pre .4) (c .before .before .before .before .before .before .before .before .before .before .before .before .before .before .before .before .before .before .before .before .before .before .before .before .before .before .before .before .before .before .before .before .pre .1) (c .before .before .before .before .before .before .before .before .before .before .before .before .before .before .before .before .before .before .before .before .before .before .choose-needs .ensures) (c .before .before .before .before .before .before .before .before .before .before .before .before .before .before .before .before .before .before .farthest .ensures)
-    (c .before .before .before .before .before .before .before .before .before .before .before .before .before .before .before .cut-before .ensures) (c .before .before .before .before .before .before .before .before .before .before .before .before .before .cheapest .ensures) (c .before .before .before .before .before .before .before .take-off .ensures) (c .before .before .settle .ensures) (c .before .before .before .before .before .before .before .before .before .before .before .put-row .ensures) refl
+    let at-settle = c .before .before in
+    let at-take-off = at-settle .before .before .before .before .before in
+    let at-put-row = at-take-off .before .before .before .before in
+    let at-cheapest = at-put-row .before .before in
+    let at-cut-before = at-cheapest .before .before in
+    let at-farthest = at-cut-before .before .before .before in
+    let at-choose-needs = at-farthest .before .before .before .before in
+    let entry = at-choose-needs .before .before .before .before .before .before .before .before .before .before in
+    round-made (entry .pre .0) (entry .pre .4) (entry .pre .1) (at-choose-needs .choose-needs .ensures) (at-farthest .farthest .ensures)
+    (at-cut-before .cut-before .ensures) (at-cheapest .cheapest .ensures) (at-take-off .take-off .ensures) (at-settle .settle .ensures)
+    (at-put-row .put-row .ensures) refl
 
 pub one-round-spec : {M : Type 1} → statement M
 one-round-spec =
