@@ -91,7 +91,7 @@ walk-lowered t r costs below-m fits (s ∷ w) h =
     ]
 
 -- a list that takes a step of X has one
-takes-at : (X : Set) (w : List ℕ) → Is (takes X w) → (s : ℕ) × Is (X s)
+pub takes-at : (X : Set) (w : List ℕ) → Is (takes X w) → (s : ℕ) × Is (X s)
 unfolding takes
 takes-at X [] h = not-is h
 takes-at X (s ∷ w) h = elim (either-cases (X s) (takes X w) h) [ inl x ↦ (s, x) | inr x ↦ takes-at X w x ]

@@ -18,7 +18,7 @@ use Rattle.distance.proofs.Lists.{entry-list}
 use Rattle.distance.proofs.Ways.{underCosts}
 use Rattle.cuts.specs.Cut.{Choice, ChoosesFarthest}
 use Rattle.cuts.specs.Rounds.{Round, givenCosts, goalAway, lowered, roundOf, roundsFrom, allRounds, floorOf, roundCount, cutsCosts, EachRound}
-use Rattle.cuts.proofs.Round.{dearSteps, entry-most, lowered-less, lowered-split, walk-lowered, round-below, round-on, round-fits, round-taken, round-positive, round-least, round-dear-fewer}
+use Rattle.cuts.proofs.Round.{takes-at, dearSteps, entry-most, lowered-less, lowered-split, walk-lowered, round-below, round-on, round-fits, round-taken, round-positive, round-least, round-dear-fewer}
 
 -- the costs are below the mark
 abbrev pub Cheap : ℕ → Task → (ℕ → ℕ) → Type 0
@@ -101,6 +101,10 @@ module _ (choose : Choice) (right : ChoosesFarthest choose) (mark : ℕ) (t : Ta
   -- every way to the goal takes a step of each cut
   pub all-taken : (w : List ℕ) → Is (wayToGoal t w) → EachRound (λ r. Is (takes (r .cut) w)) (allRounds choose mark t .list)
   all-taken w h = all-each (λ r. Is (takes (r .cut) w)) (λ costs away. round-taken choose right mark t costs away w h)
+
+  -- so where there is one, each cut has a step
+  pub all-some : (w : List ℕ) → Is (wayToGoal t w) → EachRound (λ r. (s : ℕ) × Is (r .cut s)) (allRounds choose mark t .list)
+  all-some w h = all-each (λ r. (s : ℕ) × Is (r .cut s)) (λ costs away. takes-at _ w (round-taken choose right mark t costs away w h))
 
   -- each cut costs something
   pub all-positive : 0 < mark → EachRound (λ r. 0 < r .cost) (allRounds choose mark t .list)
