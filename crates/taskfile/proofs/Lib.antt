@@ -1,0 +1,5 @@
+pub mod Records
+pub mod Bytes
+pub mod Verdicts
+pub mod Judging
+pub mod Examples

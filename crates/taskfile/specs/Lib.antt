@@ -1,0 +1,5 @@
+pub mod Records
+pub mod Sound
+pub mod Meaning
+pub mod Judging
+pub mod Answer
