@@ -1,18 +1,16 @@
 -- A record's bytes are found again and a record found has its bytes: a number below 256 ^ k is its k bytes, and the kind fixes how many follow.
-use Prim.Native.Nat.{ℕ, zero, suc, _+_, _*_, _-_, _/_, _%_, _^_, _≤_, _<_}
+use Prim.Native.Nat.{ℕ, zero, suc, _+_, _*_, _/_, _%_, _^_, _≤_, _<_}
 use mathlib.Core.Path.{_≡_, refl, sym, ap, ap₂, _∙_}
-use mathlib.Core.Bool.{Bool, true, false}
-use mathlib.Core.Logic.{_⊎_, inl, inr}
+use mathlib.Core.Logic.{inl, inr}
 use mathlib.Core.List.{List, [], _∷_, _++_, append-assoc}
-use native.Mathlib.Nat.{add-zero, add-suc, pow-suc}
+use native.Mathlib.Nat.{add-zero, pow-suc}
 use native.Mathlib.Numerals.{add-one}
 use native.Mathlib.Omega.{arith}
 use lib.ListN.{length, getD, take, drop, take-append-drop, length-append, length-drop}
 use lib.Seq.{drop-cons, drop-drop, take-add, getD-drop}
-use Rattle.sets.specs.Tests.{Is, both, either, below, same, pick}
-use Rattle.sets.proofs.Tests.{tell, not-both-ways, both-true, both-l, both-r, either-l, either-r, either-cases, below-true, below-at, below-not, same-true, same-at, same-not, pick-true, pick-false, compare}
-use Rattle.taskfile.specs.declared.format.Found.{Found}
-use Rattle.taskfile.specs.declared.format.Found.the-variants.{Whole, Unknown, Broken}
+use Rattle.sets.specs.Tests.{same}
+use Rattle.sets.proofs.Tests.{tell, same-at, same-not, compare}
+use Rattle.taskfile.specs.declared.format.Found.the-variants.{Whole}
 use Rattle.taskfile.specs.declared.format.Record.{Record}
 use Rattle.taskfile.specs.declared.format.Record.the-variants.{End, Head, Step, Names}
 use Rattle.taskfile.specs.Records.{littleEndian, recordBytes, sizeOf, numberAt, bodyLength, recordOf, foundAt}
@@ -31,7 +29,7 @@ module _ (file : List ℕ) (at : ℕ) {b : ℕ} {rest : List ℕ} (stands : drop
   rest-is : drop (suc at) file ≡ rest
   rest-is = ap (λ k. drop k file) (sym (add-one at)) ∙ sym (drop-drop 1 at file) ∙ ap (drop 1) stands
 
--- what follows the words that stand there
+-- what follows the bytes that stand there
 pub stands-next : (file : List ℕ) (at : ℕ) (front rest : List ℕ) → drop at file ≡ front ++ rest → drop (at + length front) file ≡ rest
 stands-next file at [] rest e = ap (λ k. drop k file) (add-zero at) ∙ e
 stands-next file at (b ∷ front) rest e =
@@ -113,6 +111,13 @@ size-of-kind kind file at =
     (λ e. ap suc (sym (body-step kind e)))
     (λ a b c. ap suc (sym (body-fact kind a b c)))
 
+-- every record has some bytes
+pub size-some : (r : Record) → 0 < sizeOf r
+size-some End = omega arith
+size-some (Head n m) = omega arith
+size-some (Step cost) = omega arith
+size-some (Names kind f) = omega arith
+
 -- ---- a record found
 
 -- what is known where a whole record is found
@@ -131,12 +136,15 @@ whole-at file at r e =
       | inr l ↦ let unknown = found-unknown file at l in let z : _≡_ {A = ℕ} 0 1 = cc in absurd (omega arith)
     ]
 
+-- it has the size that its kind fixes
+whole-size : (file : List ℕ) (at : ℕ) (r : Record) → WholeAt file at r → sizeOf r ≡ suc (bodyLength (getD file at 0))
+whole-size file at r w = ap sizeOf (w .is) ∙ size-of-kind (getD file at 0) file (suc at)
+
 -- it lies within the file
 pub whole-fits : (file : List ℕ) (at : ℕ) (r : Record) → foundAt file at ≡ Whole r → at + sizeOf r ≤ length file
 whole-fits file at r e =
     let w = whole-at file at r e in
-    let size : sizeOf r ≡ suc (bodyLength (getD file at 0)) = ap sizeOf (w .is) ∙ size-of-kind (getD file at 0) file (suc at) in
-    omega (arith, w .room)
+    omega (arith, w .room, whole-size file at r w)
 
 module _ (file : List ℕ) (bytes : Bytes file) where
   -- its numbers are in range
@@ -168,11 +176,12 @@ module _ (file : List ℕ) (bytes : Bytes file) where
   found-bytes at r e =
       let w = whole-at file at r e in
       let kind = getD file at 0 in
-      let size : sizeOf r ≡ suc (bodyLength kind) = ap sizeOf (w .is) ∙ size-of-kind kind file (suc at) in
-      let written : recordBytes r ≡ kind ∷ take (bodyLength kind) (drop (suc at) file) = ap recordBytes (w .is) ∙ bytes-of-kind kind (suc at) (w .room) in
-      let beyond : suc at + bodyLength kind ≡ at + sizeOf r = omega arith in
+      let body = take (bodyLength kind) (drop (suc at) file) in
+      let written : recordBytes r ≡ kind ∷ body = ap recordBytes (w .is) ∙ bytes-of-kind kind (suc at) (w .room) in
+      let beyond : suc at + bodyLength kind ≡ at + sizeOf r = omega (arith, whole-size file at r w) in
       drop-cons file at 0 (omega (arith, w .room))
-      ∙ ap (λ l. kind ∷ l) (sym (take-append-drop (bodyLength kind) (drop (suc at) file)) ∙ ap (λ l. take (bodyLength kind) (drop (suc at) file) ++ l) (drop-drop (bodyLength kind) (suc at) file ∙ ap (λ k. drop k file) beyond))
+      ∙ ap (λ l. kind ∷ l) (sym (take-append-drop (bodyLength kind) (drop (suc at) file)))
+      ∙ ap (λ l. kind ∷ body ++ l) (drop-drop (bodyLength kind) (suc at) file ∙ ap (λ k. drop k file) beyond)
       ∙ ap (λ l. l ++ drop (at + sizeOf r) file) (sym written)
 
 -- ---- a record written

@@ -20,7 +20,7 @@ use Rattle.taskfile.specs.declared.format.Record.the-variants.{End, Head
 use Rattle.taskfile.specs.Records.{longestFile, sizeOf, foundAt}
 use Rattle.taskfile.specs.Judging.{refusedAt, begin, recordVerdict, wentOn, ifFine, foundJudged, judgedAt, onward, recordsVerdict, fileVerdict}
 use Rattle.taskfile.proofs.Bytes.{whole-fits}
-use Rattle.taskfile.proofs.Verdicts.{refused-at, fine-at, or-else-fine, or-else-refused}
+use Rattle.taskfile.proofs.Refusing.{at-refused, at-fine, or-on, or-stay}
 
 -- ---- one record
 
@@ -150,8 +150,8 @@ module _ (room : ℕ → Bool) (file : List ℕ) where
   -- 16 before the records
   pub file-long : longestFile < length file → Refused 16 longestFile ≡ fileVerdict room file
   unfolding fileVerdict
-  file-long h = sym (or-else-refused _ (sym (refused-at longestFile 16 (below-true _ _ h))))
+  file-long h = sym (or-stay _ (sym (at-refused longestFile 16 (below-true _ _ h))))
 
   pub file-short : length file ≤ longestFile → {v : Verdict} → v ≡ recordsVerdict room file (length file + 1) begin → v ≡ fileVerdict room file
   unfolding fileVerdict
-  file-short h is = is ∙ sym (or-else-fine _ (sym (fine-at longestFile 16 (below-false _ _ h))))
+  file-short h is = is ∙ sym (or-on _ (at-fine longestFile 16 (below-false _ _ h)))

@@ -1,5 +1,10 @@
 pub mod Records
 pub mod Bytes
+pub mod Refusing
 pub mod Verdicts
 pub mod Judging
+pub mod Following
+pub mod Contents
+pub mod Soundness
+pub mod Checked
 pub mod Examples

@@ -13,7 +13,7 @@ use Rattle.task.specs.declared.verdict.Verdict.{Verdict}
 use Rattle.task.specs.declared.verdict.Verdict.the-variants.{Fine, Refused}
 use Rattle.task.specs.Verdict.{orElse, firstRefusal}
 use Rattle.task.specs.Check.{wrongFacts, wrongSteps}
-use Rattle.task.proofs.Refusals.{refused-fine, none-left, fine-first, fine-rest}
+use Rattle.task.proofs.Refusals.{none-left, fine-first, fine-rest}
 use Rattle.taskfile.specs.declared.cursor.Cursor.{Cursor}
 use Rattle.taskfile.specs.declared.cursor.Judged.{Judged}
 use Rattle.taskfile.specs.declared.cursor.Judged.the-variants.{On, Over}
@@ -23,6 +23,7 @@ use Rattle.taskfile.specs.declared.format.Record.the-variants.{End, Head
 use Rattle.taskfile.specs.Records.{sizeOf}
 use Rattle.taskfile.specs.Judging.{refusedAt, after, wentOn, factInPlace, inPlace, numbersVerdict, recordVerdict}
 use Rattle.taskfile.specs.Answer.{fitsIn}
+use Rattle.taskfile.proofs.Refusing.{at-refused, at-fine, at-test, test-at, refuse-at, skip-at, or-on, or-second}
 
 both-when : (p q : Bool) → Is p → both p q ≡ q
 unfolding both
@@ -66,53 +67,14 @@ module _ (room : Room) (m : ℕ) where
       (fit _ _ needs)
       (both-true _ _ (fit _ _ sets) (both-true _ _ (fit _ _ clears) (both-true _ _ (fit _ _ costs) (both-true _ _ (fit _ _ start) (fit _ _ goal))))))
 
--- ---- refusals at a place, in order
-
-pub refuse-at : {p : Bool} (at k : ℕ) (vs : List Verdict) → Is p → firstRefusal (refusedAt at p k ∷ vs) ≡ Refused k at
-unfolding firstRefusal orElse refusedAt
-refuse-at at k vs h = rw h
-
-pub skip-at : {p : Bool} (at k : ℕ) (vs : List Verdict) → p ≡ false → firstRefusal (refusedAt at p k ∷ vs) ≡ firstRefusal vs
-unfolding firstRefusal orElse refusedAt
-skip-at at k vs h = rw h
-
-pub refused-at : {p : Bool} (at k : ℕ) → Is p → Refused k at ≡ refusedAt at p k
-unfolding refusedAt
-refused-at at k h = rw h
-
-pub fine-no : (p : Bool) (at k : ℕ) → refusedAt at (no p) k ≡ Fine → Is p
-unfolding refusedAt no
-fine-no true at k e = refl
-fine-no false at k e = refused-fine e
-
-pub told-fine : {v w : Verdict} → v ≡ w → v ≡ Fine → w ≡ Fine
-told-fine told fine = sym told ∙ fine
-
-pub or-else-refused : {v : Verdict} {k p : ℕ} (w : Verdict) → v ≡ Refused k p → orElse v w ≡ Refused k p
-unfolding orElse
-or-else-refused w h = rw h
-
-pub or-else-fine : {v : Verdict} (w : Verdict) → v ≡ Fine → orElse v w ≡ w
-unfolding orElse
-or-else-fine w h = rw h
-
-pub fine-second : (v w : Verdict) → orElse v w ≡ Fine → w ≡ Fine
-unfolding orElse
-fine-second Fine w e = e
-fine-second (Refused k p) w e = refused-fine e
-
-pub fine-at : {p : Bool} (at k : ℕ) → p ≡ false → Fine ≡ refusedAt at p k
-unfolding refusedAt
-fine-at at k h = rw h
-
 -- ---- a byte after the end
 
 module _ (size at : ℕ) where
   pub byte-after : at < size → Refused 13 at ≡ refusedAt at (below at size) 13
-  byte-after h = refused-at at 13 (below-true at size h)
+  byte-after h = at-refused at 13 (below-true at size h)
 
   pub nothing-after : size ≤ at → Fine ≡ refusedAt at (below at size) 13
-  nothing-after h = fine-at at 13 (below-false at size h)
+  nothing-after h = sym (at-fine at 13 (below-false at size h))
 
 -- ---- a fact's place
 
@@ -176,20 +138,20 @@ module _ (size : ℕ) (c : Cursor) {item : Record} where
 module _ (room : ℕ → Bool) (c : Cursor) where
   pub end-early : ¬ (c .begun ≡ c .steps) → Refused 15 (c .at) ≡ numbersVerdict room c End
   unfolding numbersVerdict
-  end-early h = refused-at _ 15 (no-true _ (same-false _ _ h))
+  end-early h = at-refused _ 15 (no-true _ (same-false _ _ h))
 
   pub end-fine : c .begun ≡ c .steps → Fine ≡ numbersVerdict room c End
   unfolding numbersVerdict
-  end-fine h = fine-at _ 15 (no-of _ (same-true _ _ h))
+  end-fine h = sym (at-test _ 15 (same-true _ _ h))
 
   module _ (kind f : ℕ) where
     pub fact-past : c .facts ≤ f → Refused 14 (c .at) ≡ numbersVerdict room c (Names kind f)
     unfolding numbersVerdict
-    fact-past h = refused-at _ 14 (no-true _ (below-false _ _ h))
+    fact-past h = at-refused _ 14 (no-true _ (below-false _ _ h))
 
     pub fact-fine : f < c .facts → Fine ≡ numbersVerdict room c (Names kind f)
     unfolding numbersVerdict
-    fact-fine h = fine-at _ 14 (no-of _ (below-true _ _ h))
+    fact-fine h = sym (at-test _ 14 (below-true _ _ h))
 
   module _ (cost : ℕ) where
     pub step-dear : 65535 < cost → Refused 5 (c .at) ≡ numbersVerdict room c (Step cost)
@@ -206,7 +168,7 @@ module _ (room : ℕ → Bool) (c : Cursor) where
 
     counted : recordVerdict room c (Step cost) ≡ Fine → c .begun < c .steps
     unfolding recordVerdict numbersVerdict
-    counted e = below-at _ _ (fine-no _ _ _ (fine-first _ _ (fine-rest _ _ (fine-second _ _ e))))
+    counted e = below-at _ _ (test-at _ _ _ (fine-first _ _ (fine-rest _ _ (or-second _ _ e))))
 
     -- a step that is fine is one of the head's
     pub step-counted : {item : Record} → item ≡ Step cost → recordVerdict room c item ≡ Fine → c .begun < c .steps
@@ -252,4 +214,4 @@ module _ (room : ℕ → Bool) (c : Cursor) where
 
     pub placed : {v : Verdict} {x : Record} → not r ≡ false → item ≡ x → v ≡ numbersVerdict room c x → v ≡ recordVerdict room c item
     unfolding recordVerdict
-    placed h e is = is ∙ ap (numbersVerdict room c) (sym e) ∙ sym (or-else-fine _ (sym (fine-at _ 13 (no-of _ (sym told ∙ not-false r h)))))
+    placed h e is = is ∙ ap (numbersVerdict room c) (sym e) ∙ sym (or-on _ (at-test _ 13 (sym told ∙ not-false r h)))

@@ -2,7 +2,7 @@
 use borrow.Author.Needs.{needs}
 use mathlib.Core.Path.{sym, _∙_}
 use Rattle.taskfile.proofs.Judging.{judged-past, judged-unknown, judged-broken, judged-refused, judged-fine, goes-within}
-use Rattle.taskfile.proofs.Verdicts.{told-fine}
+use Rattle.taskfile.proofs.Refusing.{told-fine}
 use Rattle.taskfile.proofs.judge.judge_next.Statement.{statement}
 use Rattle.taskfile.proofs.judge.judge_next.Tie as tie
 
