@@ -3,6 +3,7 @@ pub mod Sets
 pub mod Bits
 pub mod Words
 pub mod Rows
+pub mod Writing
 pub mod Loops
 pub mod Methods
 pub mod Listing

@@ -69,7 +69,7 @@ module _ (n : ℕ) where
   only-steps kind bs h =
       only-table n (length bs) _ (λ s. named-below n kind (partFits n) (partsOf bs s) (part-below n) (parts-fit bs s h))
 
-length-costs : (bs : List Block) → length (costsOf bs) ≡ length bs
+pub length-costs : (bs : List Block) → length (costsOf bs) ≡ length bs
 unfolding costsOf
 length-costs [] = refl
 length-costs (b ∷ bs) = ap suc (length-costs bs)

@@ -7,4 +7,8 @@ pub mod Following
 pub mod Contents
 pub mod Soundness
 pub mod Checked
+pub mod Walking
+pub mod Filling
+pub mod Reader
 pub mod Examples
+pub mod ReadExamples

@@ -3,3 +3,4 @@ pub mod Sound
 pub mod Meaning
 pub mod Judging
 pub mod Answer
+pub mod Workers

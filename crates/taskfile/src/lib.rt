@@ -4,6 +4,7 @@
 // table is touched. The contracts cite specs/Answer.antt; specs/Sound.antt says without a judge what
 // a sound file is.
 mod cursor;
+mod fill;
 mod format;
 mod judge;
 mod one_record;
@@ -18,3 +19,4 @@ pub use format::record_at;
 pub use judge::judge_file;
 pub use judge::judge_next;
 pub use read::Reading;
+pub use read::read_task;
