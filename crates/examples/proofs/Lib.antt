@@ -1,0 +1,5 @@
+pub mod Examples
+pub mod Lowest
+pub mod Conditions
+pub mod FileRefusals
+pub mod Demand1
