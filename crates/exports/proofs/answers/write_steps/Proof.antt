@@ -1,0 +1,20 @@
+-- A refusal writes nothing, and otherwise all sixteen words are written.
+use borrow.Author.Needs.{needs}
+use Rattle.exports.proofs.Plain.{set-kept, set-made}
+use Rattle.exports.proofs.answers.write_steps.Statement.{statement}
+use Rattle.exports.proofs.answers.write_steps.Tie as tie
+
+enum-told : tie.Need-enum-told
+enum-told c = search needs
+
+enum-told-2 : tie.Need-enum-told-2
+enum-told-2 c = search needs
+
+returns : tie.Need-returns
+returns c = search (needs, set-kept)
+
+returns-2 : tie.Need-returns-2
+returns-2 c = search (needs, set-made)
+
+pub write-steps-spec : {M : Type 1} → statement M
+write-steps-spec = tie.close (tie.spec enum-told enum-told-2 returns returns-2)
