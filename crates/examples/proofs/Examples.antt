@@ -47,7 +47,7 @@ same-list-at [] (y ∷ ys) h = not-is h
 same-list-at (x ∷ xs) [] h = not-is h
 same-list-at (x ∷ xs) (y ∷ ys) h = ap₂ (λ (n : ℕ) (ns : List ℕ). n ∷ ns) (same-at x y (both-l _ _ h)) (same-list-at xs ys (both-r (same x y) _ h))
 
-abbrev verdictFrom : List ℕ → Verdict
+abbrev pub verdictFrom : List ℕ → Verdict
 verdictFrom [] = Fine
 verdictFrom (number ∷ rest) = Refusal number (getD rest 0 0)
 

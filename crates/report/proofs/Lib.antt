@@ -1,0 +1,12 @@
+pub mod Writing
+pub mod Numbers
+pub mod Fields
+pub mod TableOfCuts
+pub mod Bounds
+pub mod TaskLines
+pub mod Laying
+pub mod FileLines
+pub mod Cases
+pub mod Places
+pub mod Lengths
+pub mod Examples

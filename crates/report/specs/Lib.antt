@@ -1,0 +1,4 @@
+pub mod Text
+pub mod Page
+pub mod Report
+pub mod Workers
