@@ -1,153 +1,69 @@
--- A file that is refused is refused with one of the reader's numbers, at a place within the file: record by record, as it is judged.
-use Prim.Native.Nat.{ℕ, zero, suc, _+_, _≤_, _<_}
-use mathlib.Core.Path.{_≡_, refl, sym}
-use mathlib.Core.Bool.{Bool, true, false}
-use mathlib.Core.List.{List, [], _∷_, _++_}
+-- A file that is refused is refused with one of the reader's numbers, at a place within the file; 16 is given to those that are too long, and to no others.
+use Prim.Native.Nat.{ℕ, _≤_}
+use mathlib.Core.Path.{_≡_, refl, sym, _∙_}
+use mathlib.Core.Bool.{Bool}
+use mathlib.Core.List.{List}
 use mathlib.Core.Logic.{_⊎_, inl, inr}
 use native.Mathlib.Omega.{arith}
 use lib.ListN.{length}
-use Rattle.sets.specs.Tests.{Is, either, below, same}
-use Rattle.sets.proofs.Tests.{tell, not-is, either-cases, below-at, below-not, same-at, pick-true, pick-false}
+use Rattle.sets.specs.Tests.{below}
+use Rattle.sets.proofs.Tests.{tell, below-at, below-not}
 use Rattle.task.specs.declared.verdict.Verdict.{Verdict}
 use Rattle.task.specs.declared.verdict.Verdict.the-variants.{Fine, Refused}
-use Rattle.task.specs.Verdict.{orElse, firstRefusal}
-use Rattle.taskfile.specs.declared.format.Record.{Record}
-use Rattle.taskfile.specs.declared.format.Record.the-variants.{End, Head, Step, Names}
-use Rattle.taskfile.specs.declared.format.Found.{Found}
-use Rattle.taskfile.specs.declared.format.Found.the-variants.{Whole, Unknown, Broken}
-use Rattle.taskfile.specs.declared.cursor.Cursor.{Cursor}
-use Rattle.taskfile.specs.declared.cursor.Judged.{Judged}
-use Rattle.taskfile.specs.declared.cursor.Judged.the-variants.{On, Over}
-use Rattle.taskfile.specs.Records.{longestFile, foundAt}
-use Rattle.taskfile.specs.Judging.{refusedAt, begin, numbersVerdict, recordVerdict, wentOn, ifFine, foundJudged, judgedAt, onward, recordsVerdict, fileVerdict}
 use Rattle.task.proofs.Refusals.{refused-fine}
-use Rattle.examples.specs.Refusals.{OneOf, recordNumbers, fileNumbers, FileJudged}
+use Rattle.taskfile.specs.Records.{longestFile}
+use Rattle.taskfile.specs.Judging.{begin, fileVerdict}
+use Rattle.taskfile.proofs.Places.{Given, OfRecords, records-given, file-given, file-too-long, file-by-records}
+use Rattle.examples.specs.Refusals.{OneOf, fileNumbers, FileJudged}
 
--- k is one of these numbers, as a test
-unfoldable oneOf : ℕ → List ℕ → Bool
-oneOf k [] = false
-oneOf k (n ∷ ns) = either (same k n) (oneOf k ns)
+-- the reader's numbers
+abbrev Told : ℕ → Type 0
+Told k = OneOf k fileNumbers
 
-one-of : (k : ℕ) (ns : List ℕ) → Is (oneOf k ns) → OneOf k ns
-unfolding oneOf
-one-of k [] h = not-is h
-one-of k (n ∷ ns) h = elim (either-cases (same k n) (oneOf k ns) h) [ inl x ↦ inl (same-at k n x) | inr x ↦ inr (one-of k ns x) ]
+told : OfRecords Told
+told = record {
+  p1 = inl refl;
+  p2 = inr (inl refl);
+  p5 = inr (inr (inl refl));
+  p6 = inr (inr (inr (inl refl)));
+  p11 = inr (inr (inr (inr (inl refl))));
+  p12 = inr (inr (inr (inr (inr (inl refl)))));
+  p13 = inr (inr (inr (inr (inr (inr (inl refl))))));
+  p14 = inr (inr (inr (inr (inr (inr (inr (inl refl)))))));
+  p15 = inr (inr (inr (inr (inr (inr (inr (inr (inl refl))))))));
+}
 
-one-of-more : (k : ℕ) (ns ms : List ℕ) → OneOf k ns → OneOf k (ns ++ ms)
-one-of-more k [] ms o = absurd o
-one-of-more k (n ∷ ns) ms o = elim o [ inl e ↦ inl e | inr e ↦ inr (one-of-more k ns ms e) ]
+-- none of a record's is 16
+other : OfRecords (λ k. ¬ (k ≡ 16))
+other = record {
+  p1 = λ e. omega (arith, e);
+  p2 = λ e. omega (arith, e);
+  p5 = λ e. omega (arith, e);
+  p6 = λ e. omega (arith, e);
+  p11 = λ e. omega (arith, e);
+  p12 = λ e. omega (arith, e);
+  p13 = λ e. omega (arith, e);
+  p14 = λ e. omega (arith, e);
+  p15 = λ e. omega (arith, e);
+}
 
-not-16 : {A : Type 0} (k : ℕ) → Is (oneOf k recordNumbers) → k ≡ 16 → A
-unfolding oneOf either same
-not-16 k h e = not-is (rw e at h)
+given-ends : (most : ℕ) (v : Verdict) → Given Told most v → (v ≡ Fine) ⊎ ((k : ℕ) × (p : ℕ) × OneOf k fileNumbers × (p ≤ most) × (v ≡ Refused k p))
+given-ends most Fine h = inl refl
+given-ends most (Refused k p) h = inr (k, p, h .0, h .1, refl)
 
-module _ (size : ℕ) where
-  -- fine, or one of the reader's refusals, within a file of that size
-  abbrev Allowed : Verdict → Type 0
-  Allowed Fine = Unit {0}
-  Allowed (Refused k p) = Is (oneOf k recordNumbers) × (p ≤ size)
+never-16 : {A : Type 0} (most place : ℕ) (v : Verdict) → Given (λ k. ¬ (k ≡ 16)) most v → v ≡ Refused 16 place → A
+never-16 most place Fine h e = refused-fine (sym e)
+never-16 most place (Refused k p) h e = absurd (h .0 cc)
 
-  abbrev AllowedEnd : Judged → Type 0
-  AllowedEnd (On c) = Unit {0}
-  AllowedEnd (Over v) = Allowed v
-
-  at-place : (place : ℕ) (b : Bool) (k : ℕ) → Is (oneOf k recordNumbers) → place ≤ size → Allowed (refusedAt place b k)
-  unfolding refusedAt
-  at-place place true k h l = (h, l)
-  at-place place false k h l = tt
-
-  or-else : (v w : Verdict) → Allowed v → Allowed w → Allowed (orElse v w)
-  unfolding orElse
-  or-else Fine w a b = b
-  or-else (Refused k p) w a b = a
-
-  if-fine : (v : Verdict) (j : Judged) → Allowed v → AllowedEnd j → AllowedEnd (ifFine v j)
-  unfolding ifFine
-  if-fine Fine j a b = b
-  if-fine (Refused k p) j a b = a
-
-  module _ (room : ℕ → Bool) (c : Cursor) (l : c .at < size) where
-    numbers-allowed : (r : Record) → Allowed (numbersVerdict room c r)
-    unfolding numbersVerdict firstRefusal oneOf either same
-    numbers-allowed (Head n m) =
-        or-else _ _ (at-place (c .at) _ 1 refl (omega arith))
-        (or-else _ _ (at-place (c .at) _ 2 refl (omega arith)) (or-else _ _ (at-place (c .at) _ 6 refl (omega arith)) tt))
-    numbers-allowed (Step cost) =
-        or-else _ _ (at-place (c .at) _ 5 refl (omega arith)) (or-else _ _ (at-place (c .at) _ 15 refl (omega arith)) tt)
-    numbers-allowed (Names kind f) = at-place (c .at) _ 14 refl (omega arith)
-    numbers-allowed End = at-place (c .at) _ 15 refl (omega arith)
-
-    record-allowed : (r : Record) → Allowed (recordVerdict room c r)
-    unfolding recordVerdict oneOf either same
-    record-allowed r = or-else _ _ (at-place (c .at) _ 13 refl (omega arith)) (numbers-allowed r)
-
-    on-allowed : (r : Record) → AllowedEnd (wentOn size c r)
-    unfolding wentOn oneOf either same
-    on-allowed End = at-place (c .at + 1) _ 13 refl (omega arith)
-    on-allowed (Head n m) = tt
-    on-allowed (Step cost) = tt
-    on-allowed (Names kind f) = tt
-
-    found-allowed : (f : Found) → AllowedEnd (foundJudged room size c f)
-    unfolding foundJudged oneOf either same
-    found-allowed Unknown = (refl, omega arith)
-    found-allowed Broken = (refl, omega arith)
-    found-allowed (Whole r) = if-fine _ _ (record-allowed r) (on-allowed r)
-
-module _ (room : ℕ → Bool) (file : List ℕ) where
-  next-allowed : (c : Cursor) → AllowedEnd (length file) (judgedAt room file c)
-  unfolding judgedAt oneOf either same
-  next-allowed c =
-      elim (tell (below (c .at) (length file))) [
-        | inl h ↦ rw (pick-true _ _ h) (found-allowed (length file) room c (below-at _ _ h) (foundAt file (c .at)))
-        | inr h ↦ rw (pick-false _ _ h) (refl, omega arith)
-      ]
-
-  onward-allowed : (rest : Cursor → Verdict) → ((c : Cursor) → Allowed (length file) (rest c)) → (j : Judged) → AllowedEnd (length file) j
-      → Allowed (length file) (onward rest j)
-  unfolding onward
-  onward-allowed rest a (On c) b = a c
-  onward-allowed rest a (Over v) b = b
-
-  records-allowed : (k : ℕ) (c : Cursor) → Allowed (length file) (recordsVerdict room file k c)
-  unfolding recordsVerdict oneOf either same
-  records-allowed zero c = (refl, omega arith)
-  records-allowed (suc k) c = onward-allowed _ (records-allowed k) (judgedAt room file c) (next-allowed c)
-
-  sixteen-is : Is (oneOf 16 fileNumbers)
-  unfolding oneOf either same
-  sixteen-is = refl
-
-  -- the first of them, where the file is not too long
-  records-first : below longestFile (length file) ≡ false → fileVerdict room file ≡ recordsVerdict room file (length file + 1) begin
-  unfolding fileVerdict refusedAt orElse
-  records-first h = rw h
-
-  -- and 16 where it is
-  long-first : Is (below longestFile (length file)) → fileVerdict room file ≡ Refused 16 65535
-  unfolding fileVerdict refusedAt orElse
-  long-first h = rw h
-
-  pub file-judged : FileJudged file (fileVerdict room file)
-  file-judged =
+pub file-judged : (room : ℕ → Bool) (file : List ℕ) → FileJudged file (fileVerdict room file)
+file-judged room file = record {
+  ends = given-ends (length file) _ (file-given Told told (inr (inr (inr (inr (inr (inr (inr (inr (inr (inl refl)))))))))) room file);
+  long =
       elim (tell (below longestFile (length file))) [
-        | inl h ↦
-            let l = below-at longestFile (length file) h in
-            let sixteen = long-first h in
-            record { ends = inr (16, 65535, one-of 16 fileNumbers sixteen-is, omega arith, sixteen); long = ((λ e. l), (λ k. sixteen)) }
-        | inr h ↦ rw (records-first h) (record {
-          ends = told _ (records-allowed _ begin);
-          long = (
-            (λ e. never _ (records-allowed _ begin) e),
-            (λ k. absurd (omega (arith, below-not longestFile (length file) h))),
-          );
-        })
-      ]
-    where
-      told : (v : Verdict) → Allowed (length file) v → (v ≡ Fine) ⊎ ((k : ℕ) × (p : ℕ) × OneOf k fileNumbers × (p ≤ length file) × (v ≡ Refused k p))
-      told Fine a = inl refl
-      told (Refused k p) a = inr (k, p, one-of-more k recordNumbers (16 ∷ []) (one-of k recordNumbers (a .0)), a .1, refl)
-
-      never : {A : Type 0} (v : Verdict) → Allowed (length file) v → v ≡ Refused 16 65535 → A
-      never Fine a e = refused-fine (sym e)
-      never (Refused k p) a e = not-16 k (a .0) cc
+        | inl h ↦ ((λ e. below-at longestFile (length file) h), (λ l. file-too-long room file h))
+        | inr h ↦ (
+          (λ e. never-16 (length file) _ _ (records-given (λ k. ¬ (k ≡ 16)) other room file _ begin) (sym (file-by-records room file h) ∙ e)),
+          (λ l. absurd (omega (arith, l, below-not longestFile (length file) h))),
+        )
+      ];
+}

@@ -129,11 +129,8 @@ rowRefusals n m needs sets step which =
     ∷ refusal 9 (m ≤ step) ∷ refusal 10 ((¬ (which ≡ 0)) × (¬ (which ≡ 1))) ∷ []
 
 -- the reader: what it can find wrong with a record, and 16 before any record is looked at
-abbrev pub recordNumbers : List ℕ
-recordNumbers = 1 ∷ 2 ∷ 5 ∷ 6 ∷ 11 ∷ 12 ∷ 13 ∷ 14 ∷ 15 ∷ []
-
 abbrev pub fileNumbers : List ℕ
-fileNumbers = recordNumbers ++ 16 ∷ []
+fileNumbers = 1 ∷ 2 ∷ 5 ∷ 6 ∷ 11 ∷ 12 ∷ 13 ∷ 14 ∷ 15 ∷ 16 ∷ []
 
 -- the verdict v on a file
 pub record FileJudged (file : List ℕ) (v : Verdict) : Type 0 where

@@ -10,5 +10,6 @@ pub mod Checked
 pub mod Walking
 pub mod Filling
 pub mod Reader
+pub mod Places
 pub mod Examples
 pub mod ReadExamples
