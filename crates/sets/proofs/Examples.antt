@@ -1,11 +1,10 @@
 -- Document 01's rule for bits at the borders of words, and right-looking answers that it rules out: all by computation.
-use Prim.Native.Nat.{ℕ, ◌^◌, ◌/◌, ◌%◌}
+use Prim.Native.Nat.{ℕ, ◌^◌, ◌%◌}
 use mathlib.Core.Path.{◌≡◌, refl}
-use mathlib.Core.Bool.{true, false}
 use mathlib.Core.List.{List, [], ◌∷◌}
 use native.Mathlib.Omega.{arith}
-use Rattle.sets.specs.Tests.{no, both, either, implies, below, same, pick}
-use Rattle.sets.specs.Sets.{none, up_to, added, dropped, joined, met, removed, all, within, one, count, lowest, members}
+use Rattle.sets.specs.Tests.{either, below, same, pick}
+use Rattle.sets.specs.Sets.{none, up_to, added, one, count, lowest, members}
 use Rattle.sets.specs.Words.{bit, has, word_of, words_of, row}
 
 -- ---- fact f is bit f mod 64 of word f div 64

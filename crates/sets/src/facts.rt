@@ -6,7 +6,7 @@ ghost use Rattle.sets.specs.Words.{has, words_of, row, with_row};
 use crate::slices;
 
 // Facts: those numbers below 256 whose bits are 1.
-#[derive(Drop)]
+#[derive(Clone, Copy)]
 pub struct Facts {
     pub words: [u64; 4],
 }

@@ -4,6 +4,8 @@
 // has a `requires`: a number past the last bit is in no set, and words past a table's end hold
 // nothing. The contracts say which set comes back, by the definitions of specs/Sets.antt;
 // specs/Words.antt says which words a set is.
+#![tactic(auto)]
+
 mod facts;
 mod slices;
 mod steps;

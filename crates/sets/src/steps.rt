@@ -6,7 +6,7 @@ ghost use Rattle.sets.specs.Words.{has, words_of, row, with_row};
 use crate::slices;
 
 // Steps: those numbers below 1024 whose bits are 1.
-#[derive(Drop)]
+#[derive(Clone, Copy)]
 pub struct Steps {
     pub words: [u64; 16],
 }
