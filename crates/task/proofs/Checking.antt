@@ -1,6 +1,6 @@
 -- Why checking answers as document 01 says: each answer from the tests that lead to it. And what is known of a task that nothing is wrong with.
-use Prim.Native.Nat.{ℕ, zero, suc, ◌+◌, ◌*◌, ◌/◌, ◌≤◌, ◌<◌}
-use mathlib.Core.Path.{◌≡◌, refl, sym, ap, ◌∙◌}
+use Prim.Native.Nat.{ℕ, ◌+◌, ◌*◌, ◌/◌, ◌≤◌, ◌<◌}
+use mathlib.Core.Path.{◌≡◌, sym, ap, ◌∙◌}
 use mathlib.Core.Bool.{Bool, true, false, not}
 use mathlib.Core.List.{List, [], ◌∷◌}
 use mathlib.Core.Logic.{inl, inr}
@@ -9,8 +9,8 @@ use lib.Dec.{eqb}
 use lib.ListN.{length, get_or, get_or-eq_default}
 use borrow.Author.Rules.{rules}
 use borrow.Author.Tests.{not-true, not-false}
-use Rattle.sets.specs.Tests.{Is, no, both, below, same}
-use Rattle.sets.specs.Sets.{Set, all, within, up_to}
+use Rattle.sets.specs.Tests.{Is, no, both, below}
+use Rattle.sets.specs.Sets.{all, within, up_to}
 use Rattle.sets.specs.Words.{has, words_of, row}
 use Rattle.sets.proofs.Tests.{no_true, no_false, no_of, both_l, both_r, both_false_l, both_false_r, below_true, below_false, below_at, below_not, same_is, same_true, same_false, same_at, compare}
 use Rattle.sets.proofs.Sets.{all_at, all_fails, all_next, within_at}

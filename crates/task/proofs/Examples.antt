@@ -3,13 +3,12 @@ use Prim.Native.Nat.{ℕ, ◌^◌}
 use mathlib.Core.Path.{◌≡◌, refl}
 use mathlib.Core.Bool.{true, false}
 use mathlib.Core.List.{List, [], ◌∷◌}
-use native.Mathlib.Omega.{arith}
 use Rattle.sets.specs.Tests.{no, both, either, implies, below, same, pick}
-use Rattle.sets.specs.Sets.{Set, none, up_to, added, joined, removed, all, within}
+use Rattle.sets.specs.Sets.{none, up_to, added, joined, removed, all, within}
 use Rattle.sets.specs.Words.{bit, has, row}
 use Rattle.task.specs.declared.verdict.Verdict.{Verdict}
 use Rattle.task.specs.declared.verdict.Verdict.TheVariants.{Fine, Refused}
-use Rattle.task.specs.Tables.{Tables, tables}
+use Rattle.task.specs.Tables.{tables}
 use Rattle.task.specs.Verdict.{refused_if, or_else, first_refusal}
 use Rattle.task.specs.Check.{wrong_facts, wrong_steps, right_lengths, only_facts, right_sets, right_costs, sizes_verdict, verdict_of}
 use Rattle.task.specs.Row.{row_verdict, handed_out}

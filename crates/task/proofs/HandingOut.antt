@@ -1,12 +1,10 @@
 -- Why the row of a step is judged as document 01 says, and why a row that is handed out lies within its table: each answer from the tests that lead to it.
 use Prim.Native.Nat.{ℕ, ◌+◌, ◌*◌, ◌≤◌, ◌<◌}
-use mathlib.Core.Path.{◌≡◌, refl, sym, ap, ◌∙◌}
-use mathlib.Core.Bool.{Bool, true, false}
+use mathlib.Core.Path.{◌≡◌, refl, sym, ◌∙◌}
 use mathlib.Core.List.{List, [], ◌∷◌}
-use native.Mathlib.Omega.{arith}
 use lib.ListN.{length}
 use borrow.Author.Rules.{rules}
-use Rattle.sets.specs.Tests.{Is, no, both, below, same, pick}
+use Rattle.sets.specs.Tests.{no, both, below, same, pick}
 use Rattle.sets.specs.Words.{row}
 use Rattle.sets.proofs.Tests.{no_true, no_of, both_true, both_l, both_r, both_false_l, both_false_r, below_true, below_false, below_at, below_not, same_true, same_false, same_at}
 use Rattle.task.specs.declared.verdict.Verdict.{Verdict}

@@ -1,11 +1,10 @@
 -- Laws of refusals given in order: by cases on the first answer of the list.
 use Prim.Native.Nat.{ℕ}
-use mathlib.Core.Path.{◌≡◌, refl, sym, ap, ◌∙◌}
+use mathlib.Core.Path.{◌≡◌, refl, sym}
 use mathlib.Core.Bool.{Bool, true, false}
 use mathlib.Core.List.{List, [], ◌∷◌}
 use native.Mathlib.Omega.{arith}
 use Rattle.sets.specs.Tests.{Is, no}
-use Rattle.sets.proofs.Tests.{no_true, no_false}
 use Rattle.task.specs.declared.verdict.Verdict.{Verdict}
 use Rattle.task.specs.declared.verdict.Verdict.TheVariants.{Fine, Refused}
 use Rattle.task.specs.Verdict.{refused_if, or_else, first_refusal}

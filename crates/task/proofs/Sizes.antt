@@ -1,14 +1,12 @@
 -- Why the sizes are judged as document 01 says: each answer from the tests that lead to it, and what is known where nothing is refused.
 use Prim.Native.Nat.{ℕ, zero, suc, ◌≤◌, ◌<◌}
-use mathlib.Core.Path.{◌≡◌, refl, sym, ap, ◌∙◌}
-use mathlib.Core.Bool.{Bool, true, false}
-use mathlib.Core.List.{List, [], ◌∷◌}
-use mathlib.Core.Logic.{inl, inr}
+use mathlib.Core.Path.{◌≡◌, refl, sym, ◌∙◌}
+use mathlib.Core.Bool.{false}
+use mathlib.Core.List.{[], ◌∷◌}
 use native.Mathlib.Omega.{arith}
 use borrow.Author.Rules.{rules}
-use Rattle.sets.specs.Tests.{Is, either, below, same}
+use Rattle.sets.specs.Tests.{either, below, same}
 use Rattle.sets.proofs.Tests.{either_l, either_r, either_false, either_not, below_true, below_false, below_not, same_true, same_false, same_not}
-use Rattle.task.specs.declared.verdict.Verdict.{Verdict}
 use Rattle.task.specs.declared.verdict.Verdict.TheVariants.{Fine, Refused}
 use Rattle.task.specs.Verdict.{refused_if, first_refusal}
 use Rattle.task.specs.Check.{wrong_facts, wrong_steps, sizes_verdict}

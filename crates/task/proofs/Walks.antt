@@ -1,14 +1,14 @@
 -- Laws of steps, walks and ways. Every real walk is a way, because with clears ignored at least as much holds at each of its steps.
-use Prim.Native.Nat.{ℕ, zero, suc, ◌+◌, ◌*◌, ◌≤◌, ◌<◌}
-use mathlib.Core.Path.{◌≡◌, refl, sym, ap, ◌∙◌}
+use Prim.Native.Nat.{ℕ, ◌+◌, ◌*◌, ◌≤◌, ◌<◌}
+use mathlib.Core.Path.{◌≡◌, refl, ◌∙◌}
 use mathlib.Core.Bool.{Bool, true, false}
 use mathlib.Core.List.{List, [], ◌∷◌, ◌++◌}
 use mathlib.Core.Logic.{◌⊎◌, inl, inr}
 use native.Mathlib.Omega.{arith}
 use lib.ListN.{length}
 use Rattle.sets.specs.Tests.{Is, no, both, either, below}
-use Rattle.sets.specs.Sets.{Set, none, joined, removed, within}
-use Rattle.sets.proofs.Tests.{tell, both_l, both_r, both_true, both_false_l, either_l, either_r, either_cases, either_false, no_true, no_of, below_true, below_at}
+use Rattle.sets.specs.Sets.{Set, none, joined, removed}
+use Rattle.sets.proofs.Tests.{both_l, both_r, both_true, both_false_l, either_l, either_r, either_cases, either_false, no_true, no_of, below_true, below_at}
 use Rattle.sets.proofs.Sets.{within_at, within_true}
 use Rattle.task.specs.Task.{Task, ignoring_clears}
 use Rattle.task.specs.Walks.{taken, possible, taking, can_take, after, goal_holds, real_walk, walk_cost, way, way_end, way_to_goal}

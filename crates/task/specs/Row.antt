@@ -1,5 +1,5 @@
 -- The row of a step, handed out as a part of the caller's own table: 0 asks for needs, 1 for sets.
-use Rattle.std.specs.Prelude.{ℕ, ◌+◌, ◌*◌, Bool, List, [], ◌∷◌, length}
+use Rattle.std.specs.Prelude.{ℕ, ◌+◌, ◌*◌, List, [], ◌∷◌, length}
 use Rattle.sets.specs.Tests.{no, both, below, same, pick}
 use Rattle.sets.specs.Words.{row}
 use Rattle.task.specs.declared.verdict.Verdict.{Verdict}

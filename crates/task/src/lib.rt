@@ -2,6 +2,8 @@
 //
 // No public function has a `requires`. Those that can refuse answer a `Verdict`, whose number and
 // place are document 01's; the contracts cite specs/Check.antt, specs/Row.antt and specs/Walks.antt.
+#![tactic(auto)]
+
 mod checks;
 mod row;
 mod taking;

@@ -6,14 +6,14 @@ ghost use Rattle.task.specs.Check.{sizes_verdict};
 use crate::verdict::Verdict;
 
 // How many facts and steps a task has.
-#[derive(Drop)]
+#[derive(Clone, Copy)]
 pub struct Task {
     pub facts: usize,
     pub steps: usize,
 }
 
 // The limits as values, for whoever cannot name a constant.
-#[derive(Drop)]
+#[derive(Clone, Copy)]
 pub struct Limits {
     pub facts: usize,
     pub steps: usize,
