@@ -1,6 +1,6 @@
 -- The theory of least closed sets: whatever holds of the seeds and is kept by the rule holds of every member, because each pass keeps it; and each pass
 -- but the last adds a number, so that n + 1 passes end in a set that is closed.
-use Prim.Native.Nat.{ℕ, zero, suc, ◌+◌, ◌-◌, ◌≤◌, ◌<◌}
+use Prim.Native.Nat.{ℕ, zero, suc, ◌+◌, ◌≤◌, ◌<◌}
 use mathlib.Core.Path.{◌≡◌, refl, sym, ap, ◌∙◌}
 use mathlib.Core.Bool.{Bool, true, false}
 use mathlib.Core.Logic.{◌⊎◌, inl, inr}

@@ -3,6 +3,8 @@
 // `reach` has no `requires`: it checks the task first and answers the verdict beside the set. Its
 // contract cites specs/Answer.antt; specs/Least.antt and specs/Reach.antt say what the set and the
 // number of passes are, and proofs/Ways.antt that the set is what some way leads to.
+#![tactic(auto)]
+
 ghost use Rattle.std.specs.Prelude.{◌≡◌};
 ghost use Rattle.sets.specs.Sets.{joined};
 ghost use Rattle.sets.specs.Words.{has, words_of};
@@ -16,7 +18,7 @@ use sets::{Facts, Steps};
 use task::{Task, Verdict};
 
 // The facts within reach, and the number of passes that found them, the last one counted.
-#[derive(Drop)]
+#[derive(Clone, Copy)]
 pub struct Reached {
     pub verdict: Verdict,
     pub set: Facts,
