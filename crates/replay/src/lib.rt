@@ -3,6 +3,8 @@
 // `replay` has no `requires`: it refuses with 1 to 5, 8 and 9, lowest first, and looks for 9 over the
 // whole walk before any step is taken. Its contract cites specs/Replay.antt; proofs/Walked.antt says
 // of each answer exactly when it is given.
+#![tactic(auto)]
+
 ghost use Rattle.std.specs.Prelude.{◌≡◌};
 ghost use Rattle.sets.specs.Tests.{no, both};
 ghost use Rattle.sets.specs.Sets.{within};
@@ -17,7 +19,7 @@ use task::{Task, Verdict};
 
 // Done with the cost, stuck at an entry of the walk, short of the goal, or refused with document 01's
 // number and place.
-#[derive(Drop)]
+#[derive(Clone, Copy)]
 pub enum Replayed {
     Done(u64),
     Stuck(usize),
