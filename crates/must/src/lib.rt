@@ -3,6 +3,8 @@
 // No public function has a `requires`; each checks the task first. The contracts cite
 // specs/Answer.antt, which gives the answers by the definitions of specs/Must.antt; proofs/Demand2.antt
 // says what these mean for ways.
+#![tactic(auto)]
+
 mod before;
 mod labels;
 mod passing;
