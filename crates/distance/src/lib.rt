@@ -7,6 +7,8 @@
 //
 // No public function has a `requires`. The contracts cite specs/Distance.antt and specs/Answer.antt;
 // those of `settle` and its workers cite specs/Relaxing.antt.
+#![tactic(auto)]
+
 ghost use Rattle.std.specs.Prelude.{◌≡◌, ◌+◌, ◌<◌, length};
 ghost use Rattle.sets.specs.Tests.{pick};
 ghost use Rattle.sets.specs.Sets.{none};
