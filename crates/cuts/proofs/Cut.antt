@@ -7,13 +7,12 @@ use mathlib.Core.List.{List}
 use mathlib.Core.Logic.{◌⊎◌, inl, inr}
 use native.Mathlib.Omega.{arith}
 use Rattle.sets.specs.Tests.{Is, no, both, either, same}
-use Rattle.sets.specs.Sets.{Set, removed, any}
+use Rattle.sets.specs.Sets.{Set, removed}
 use Rattle.sets.proofs.Tests.{fails, not_both_ways, both_l, both_r, both_true, either_l, either_r, either_cases, no_true, no_false, same_true, same_at, compare}
 use Rattle.sets.proofs.Sets.{any_true, any_at, within_at}
 use Rattle.task.specs.Task.{Task}
 use Rattle.task.specs.Walks.{goal_holds, way_to_goal}
 use Rattle.task.proofs.Walks.{Sub, possible_true, possible_on, possible_needs}
-use Rattle.reach.specs.Least.{least}
 use Rattle.reach.specs.Reach.{reach, made, without, takes}
 use Rattle.reach.proofs.Least.{Within, Kept, held_in, held_out, held_below, least_holds, least_closed, least_within}
 use Rattle.reach.proofs.Ways.{made_true, made_at, reach_holds, reach_closed, reach_within, every_goal}

@@ -10,7 +10,6 @@ use Rattle.sets.specs.Sets.{Set}
 use Rattle.sets.proofs.Tests.{equal_tests, both_l, both_r, both_true, either_l, either_r, either_cases, same_true, same_at}
 use Rattle.task.specs.Task.{Task}
 use Rattle.task.proofs.Walks.{Sub}
-use Rattle.reach.specs.Least.{least}
 use Rattle.reach.proofs.Least.{Kept, least_within}
 use Rattle.distance.specs.Distance.{distance, goal_distance}
 use Rattle.cuts.specs.Cut.{begin, counted, arc_into, free_tails, zone, heads_outside, region, cut}

@@ -6,7 +6,6 @@ use mathlib.Core.Bool.{Bool}
 use mathlib.Core.List.{List}
 use native.Mathlib.Omega.{arith}
 use lib.ListN.{length, set}
-use borrow.Author.Rules.{rules}
 use Rattle.sets.specs.Tests.{Is, both}
 use Rattle.sets.specs.Sets.{Set, none}
 use Rattle.sets.specs.Words.{has, words_of, with_row}

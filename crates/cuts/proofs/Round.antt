@@ -15,11 +15,11 @@ use Rattle.task.specs.Task.{Task}
 use Rattle.task.specs.Walks.{goal_holds, walk_cost, way_to_goal}
 use Rattle.reach.specs.Reach.{reach, takes}
 use Rattle.reach.proofs.Ways.{goal_is}
-use Rattle.distance.specs.Distance.{least, list_of, entry, distance, goal_distance}
+use Rattle.distance.specs.Distance.{list_of, entry, distance, goal_distance}
 use Rattle.distance.proofs.Extremes.{least_le, least_ge, least_at}
 use Rattle.distance.proofs.Lists.{length_list, entry_list}
 use Rattle.distance.proofs.Ways.{under_costs}
-use Rattle.cuts.specs.Cut.{Choice, ChoosesFarthest, cut, chosen_needs, goal_choice, cut_of, cut_cost}
+use Rattle.cuts.specs.Cut.{Choice, ChoosesFarthest, chosen_needs, goal_choice, cut_of, cut_cost}
 use Rattle.cuts.specs.Rounds.{Round, lowered, round_of}
 use Rattle.cuts.proofs.Cut.{Chosen, cut_below, cut_on, cut_costs_some, cut_taken}
 

@@ -3,6 +3,8 @@
 // `cuts` has no `requires`: it checks the task first. Its contract cites specs/Answer.antt;
 // specs/Cut.antt and specs/Rounds.antt say what the cuts are, and proofs/Demand3.antt what holds of
 // them.
+#![tactic(auto)]
+
 use sets::{Facts, Steps};
 use task::{Task, Verdict};
 
@@ -17,7 +19,7 @@ ghost use Rattle.task.specs.Tables.{tables, view};
 ghost use Rattle.cuts.specs.Answer.{cuts_verdict, cutting_by, cuts_written, prices_written, left_written};
 
 // The number of rounds, and the sum of the cuts' costs.
-#[derive(Drop)]
+#[derive(Clone, Copy)]
 pub struct Cutting {
     pub verdict: Verdict,
     pub rounds: usize,
