@@ -16,7 +16,7 @@ use Rattle.taskfile.specs.declared.format.Record.TheVariants.{End, Head, Step, N
 use Rattle.taskfile.specs.declared.cursor.Cursor.{Cursor}
 use Rattle.taskfile.specs.Sound.{Naming, Block, Contents, naming_records, block_records, records_of, first_fits, part_fits, all_of, block_fits, fits}
 use Rattle.taskfile.specs.Meaning.{first_namings, blocks_in, contents_of}
-use Rattle.taskfile.specs.Judging.{begin, after, fact_in_place, in_place, numbers_verdict, record_verdict}
+use Rattle.taskfile.specs.Judging.{begin, fact_in_place, in_place, numbers_verdict, record_verdict}
 use Rattle.taskfile.proofs.Refusing.{at_fine, fine_at, at_test, test_at, or_fine, or_first, or_second}
 use Rattle.taskfile.proofs.Bytes.{FactKind, Writable, end_writable, head_writable, step_writable, fact_writable}
 use Rattle.taskfile.proofs.Following.{Goes, Follows, last, next, no_end_head, no_end_step, no_end_fact}

@@ -1,6 +1,6 @@
 -- Document 01's file of 67 bytes, and files at each refusal's border: each by computing.
 use Prim.Native.Nat.{ℕ}
-use mathlib.Core.Bool.{Bool, true, false}
+use mathlib.Core.Bool.{true, false}
 use mathlib.Core.Path.{◌≡◌, refl}
 use mathlib.Core.List.{List, [], ◌∷◌}
 use Rattle.sets.specs.Tests.{no, both, either, below, same, pick}

@@ -5,11 +5,9 @@ use mathlib.Core.Bool.{Bool}
 use mathlib.Core.List.{List}
 use native.Mathlib.Omega.{arith}
 use lib.ListN.{length}
-use Rattle.sets.specs.Tests.{Is, below, pick}
 use Rattle.sets.proofs.Tests.{below_true, below_false, pick_true, pick_false}
 use Rattle.task.specs.declared.verdict.Verdict.{Verdict}
 use Rattle.task.specs.declared.verdict.Verdict.TheVariants.{Fine, Refused}
-use Rattle.task.specs.Verdict.{or_else}
 use Rattle.taskfile.specs.declared.cursor.Cursor.{Cursor}
 use Rattle.taskfile.specs.declared.cursor.Judged.{Judged}
 use Rattle.taskfile.specs.declared.cursor.Judged.TheVariants.{On, Over}
@@ -18,7 +16,7 @@ use Rattle.taskfile.specs.declared.format.Found.TheVariants.{Whole, Unknown, Bro
 use Rattle.taskfile.specs.declared.format.Record.{Record}
 use Rattle.taskfile.specs.declared.format.Record.TheVariants.{End, Head, Step, Names}
 use Rattle.taskfile.specs.Records.{longest_file, size_of, found_at}
-use Rattle.taskfile.specs.Judging.{refused_at, begin, record_verdict, went_on, if_fine, found_judged, judged_at, onward, records_verdict, file_verdict}
+use Rattle.taskfile.specs.Judging.{begin, record_verdict, went_on, if_fine, found_judged, judged_at, onward, records_verdict, file_verdict}
 use Rattle.taskfile.proofs.Bytes.{whole_fits}
 use Rattle.taskfile.proofs.Refusing.{at_refused, at_fine, or_on, or_stay}
 

@@ -4,9 +4,7 @@ use mathlib.Core.Path.{◌≡◌, refl, sym, ap, ◌∙◌}
 use mathlib.Core.List.{List}
 use native.Mathlib.Omega.{arith}
 use lib.ListN.{length, get_or, get_or-eq_default}
-use Rattle.sets.specs.Tests.{below, same, pick}
 use Rattle.sets.proofs.Tests.{same_true, same_false, below_true, below_false, pick_true, pick_false}
-use Rattle.taskfile.specs.declared.format.Found.{Found}
 use Rattle.taskfile.specs.declared.format.Found.TheVariants.{Whole, Unknown, Broken}
 use Rattle.taskfile.specs.declared.format.Record.{Record}
 use Rattle.taskfile.specs.declared.format.Record.TheVariants.{End, Head, Step, Names}

@@ -1,21 +1,18 @@
 -- The verdict on one record follows from the tests that lead to it: each refusal by its own law, fine where no test applies.
-use Prim.Native.Nat.{ℕ, suc, ◌+◌, ◌*◌, ◌<◌, ◌≤◌}
-use mathlib.Core.Path.{◌≡◌, refl, sym, ap, ◌∙◌}
+use Prim.Native.Nat.{ℕ, ◌+◌, ◌*◌, ◌<◌, ◌≤◌}
+use mathlib.Core.Path.{◌≡◌, sym, ap, ◌∙◌}
 use mathlib.Core.Bool.{Bool, true, false, not}
-use mathlib.Core.List.{List, [], ◌∷◌}
-use mathlib.Core.Logic.{inl, inr}
 use native.Mathlib.Omega.{arith}
 use borrow.Author.Tests.{not-true, not-false}
 use lib.Dec.{ltb, eqb}
-use Rattle.sets.specs.Tests.{Is, no, both, either, below, same, pick}
+use Rattle.sets.specs.Tests.{Is, no, both, below}
 use Rattle.sets.proofs.Tests.{both_false_l, both_false_r, both_true, either_l, either_r, either_false, below_true, below_false, below_at, same_true, same_false, pick_true, pick_false, no_true, no_of, same_is, below_is, no_is}
 use Rattle.task.specs.declared.verdict.Verdict.{Verdict}
 use Rattle.task.specs.declared.verdict.Verdict.TheVariants.{Fine, Refused}
-use Rattle.task.specs.Verdict.{or_else, first_refusal}
+use Rattle.task.specs.Verdict.{or_else}
 use Rattle.task.specs.Check.{wrong_facts, wrong_steps}
 use Rattle.task.proofs.Refusals.{none_left, fine_first, fine_rest}
 use Rattle.taskfile.specs.declared.cursor.Cursor.{Cursor}
-use Rattle.taskfile.specs.declared.cursor.Judged.{Judged}
 use Rattle.taskfile.specs.declared.cursor.Judged.TheVariants.{On, Over}
 use Rattle.taskfile.specs.declared.cursor.Room.{Room}
 use Rattle.taskfile.specs.declared.format.Record.{Record}

@@ -2,11 +2,8 @@
 -- bytes are all of them.
 use Prim.Native.Nat.{ℕ, zero, suc, ◌+◌, ◌≤◌, ◌<◌}
 use mathlib.Core.Path.{◌≡◌, refl, sym, ap, ◌∙◌}
-use mathlib.Core.Logic.{inl, inr}
 use mathlib.Core.List.{List, [], ◌∷◌}
 use native.Mathlib.Omega.{arith}
-use types.Run.{OneOf}
-use denote.Enum.Declared.{tag_of}
 use lib.ListN.{length}
 use Rattle.taskfile.specs.declared.format.Record.{Record}
 use Rattle.taskfile.specs.declared.format.Record.TheVariants.{End, Head, Step, Names}
@@ -15,8 +12,6 @@ use Rattle.taskfile.specs.declared.format.Found.TheVariants.{Whole, Unknown, Bro
 use Rattle.taskfile.specs.Records.{size_of, found_at, after_record, records_on, records_in}
 use Rattle.taskfile.specs.Meaning.{first_namings, blocks_in}
 use Rattle.taskfile.specs.Workers.{records_from, namings_from, blocks_from, sizes_of}
-use Rattle.taskfile.specs.contracts.format.Found as found
-use Rattle.taskfile.specs.contracts.format.Record as recorded
 use Rattle.taskfile.proofs.Records.{found_past}
 use Rattle.taskfile.proofs.Bytes.{size_some, whole_fits}
 
@@ -47,7 +42,7 @@ enough file zero zero at h g = refl
 enough file zero (suc j) at h g = sym (ap (records_on (λ next. records_in j file next) at) (found_past file at (omega arith)))
 enough file (suc k) zero at h g = ap (records_on (λ next. records_in k file next) at) (found_past file at (omega arith))
 enough file (suc k) (suc j) at h g =
-    on_same _ _ at (found_at file at)
+    on_same (records_in k file) (records_in j file) at (found_at file at)
     (λ r. enough file k j (at + size_of r) (omega (arith, size_some r)) (omega (arith, size_some r)))
 
 -- the records from an offset on, by what stands there
@@ -59,10 +54,9 @@ records_found file at x e =
 
 module _ (file : List ℕ) (at : ℕ) where
   -- none where no record is whole
-  records_none : (x : Found) → x ≡ found_at file at → OneOf (1 ∷ 2 ∷ []) (tag_of found.the_type x) → records_from file at ≡ []
+  records_none : (x : Found) → x ≡ found_at file at → ((r : Record) → ¬ (x ≡ Whole r)) → records_from file at ≡ []
   unfolding records_on
-  records_none (Whole r) e (inl z) = absurd (omega arith)
-  records_none (Whole r) e (inr z) = absurd (omega arith)
+  records_none (Whole r) e other = absurd (other r refl)
   records_none Unknown e other = records_found file at _ e
   records_none Broken e other = records_found file at _ e
 
@@ -78,23 +72,21 @@ module _ (file : List ℕ) (at : ℕ) where
   unfolding namings_from first_namings records_on after_record
   namings_more kind f e = ap first_namings (records_found file at _ e)
 
-  pub namings_none : (x : Found) → x ≡ found_at file at → OneOf (1 ∷ 2 ∷ []) (tag_of found.the_type x) → namings_from file at ≡ []
+  pub namings_none : (x : Found) → x ≡ found_at file at → ((r : Record) → ¬ (x ≡ Whole r)) → namings_from file at ≡ []
   unfolding namings_from first_namings
   namings_none x e other = ap first_namings (records_none x e other)
 
   -- the record names no fact
-  pub namings_over : (r : Record) → Whole r ≡ found_at file at → OneOf (0 ∷ 1 ∷ 2 ∷ []) (tag_of recorded.the_type r) → namings_from file at ≡ []
+  pub namings_over : (r : Record) → Whole r ≡ found_at file at → ((kind f : ℕ) → ¬ (r ≡ Names kind f)) → namings_from file at ≡ []
   unfolding namings_from first_namings records_on after_record
   namings_over End e other = ap first_namings (records_found file at _ e)
   namings_over (Head n m) e other = ap first_namings (records_found file at _ e)
   namings_over (Step cost) e other = ap first_namings (records_found file at _ e)
-  namings_over (Names kind f) e (inl z) = absurd (omega arith)
-  namings_over (Names kind f) e (inr (inl z)) = absurd (omega arith)
-  namings_over (Names kind f) e (inr (inr z)) = absurd (omega arith)
+  namings_over (Names kind f) e other = absurd (other kind f refl)
 
   -- ---- the steps from there on
 
-  pub blocks_none : (x : Found) → x ≡ found_at file at → OneOf (1 ∷ 2 ∷ []) (tag_of found.the_type x) → blocks_from file at ≡ []
+  pub blocks_none : (x : Found) → x ≡ found_at file at → ((r : Record) → ¬ (x ≡ Whole r)) → blocks_from file at ≡ []
   unfolding blocks_from blocks_in
   blocks_none x e other = ap blocks_in (records_none x e other)
 
@@ -103,17 +95,13 @@ module _ (file : List ℕ) (at : ℕ) where
   blocks_end e = ap blocks_in (records_found file at _ e)
 
   -- a record that is no end and no step is passed over
-  pub blocks_other : (r : Record) → Whole r ≡ found_at file at → OneOf (1 ∷ 2 ∷ 3 ∷ []) (tag_of recorded.the_type r) → OneOf (0 ∷ 1 ∷ 3 ∷ []) (tag_of recorded.the_type r)
+  pub blocks_other : (r : Record) → Whole r ≡ found_at file at → ¬ (r ≡ End) → ((cost : ℕ) → ¬ (r ≡ Step cost))
       → blocks_from file at ≡ blocks_from file (at + size_of r)
   unfolding blocks_from blocks_in records_on after_record
   blocks_other (Head n m) e no_end no_step = ap blocks_in (records_found file at _ e)
   blocks_other (Names kind f) e no_end no_step = ap blocks_in (records_found file at _ e)
-  blocks_other End e (inl z) no_step = absurd (omega arith)
-  blocks_other End e (inr (inl z)) no_step = absurd (omega arith)
-  blocks_other End e (inr (inr z)) no_step = absurd (omega arith)
-  blocks_other (Step cost) e no_end (inl z) = absurd (omega arith)
-  blocks_other (Step cost) e no_end (inr (inl z)) = absurd (omega arith)
-  blocks_other (Step cost) e no_end (inr (inr z)) = absurd (omega arith)
+  blocks_other End e no_end no_step = absurd (no_end refl)
+  blocks_other (Step cost) e no_end no_step = absurd (no_step cost refl)
 
   pub blocks_step : (cost past : ℕ) → Whole (Step cost) ≡ found_at file at → past ≡ at + 5
       → blocks_from file at ≡ record { cost = cost; parts = namings_from file past } ∷ blocks_from file past
@@ -122,21 +110,18 @@ module _ (file : List ℕ) (at : ℕ) where
 
 -- ---- the sizes that a head says
 
-pub sizes_none : (x : Found) {y : Found} → x ≡ y → OneOf (1 ∷ 2 ∷ []) (tag_of found.the_type x) → record { facts = 0; steps = 0 } ≡ sizes_of y
+pub sizes_none : (x : Found) {y : Found} → x ≡ y → ((r : Record) → ¬ (x ≡ Whole r)) → record { facts = 0; steps = 0 } ≡ sizes_of y
 unfolding sizes_of
-sizes_none (Whole r) e (inl z) = absurd (omega arith)
-sizes_none (Whole r) e (inr z) = absurd (omega arith)
+sizes_none (Whole r) e other = absurd (other r refl)
 sizes_none Unknown e other = ap sizes_of e
 sizes_none Broken e other = ap sizes_of e
 
-pub sizes_other : (r : Record) {y : Found} → Whole r ≡ y → OneOf (0 ∷ 2 ∷ 3 ∷ []) (tag_of recorded.the_type r) → record { facts = 0; steps = 0 } ≡ sizes_of y
+pub sizes_other : (r : Record) {y : Found} → Whole r ≡ y → ((n m : ℕ) → ¬ (r ≡ Head n m)) → record { facts = 0; steps = 0 } ≡ sizes_of y
 unfolding sizes_of
 sizes_other End e other = ap sizes_of e
 sizes_other (Step cost) e other = ap sizes_of e
 sizes_other (Names kind f) e other = ap sizes_of e
-sizes_other (Head n m) e (inl z) = absurd (omega arith)
-sizes_other (Head n m) e (inr (inl z)) = absurd (omega arith)
-sizes_other (Head n m) e (inr (inr z)) = absurd (omega arith)
+sizes_other (Head n m) e other = absurd (other n m refl)
 
 pub sizes_head : (n m : ℕ) {y : Found} → Whole (Head n m) ≡ y → record { facts = n; steps = m } ≡ sizes_of y
 unfolding sizes_of

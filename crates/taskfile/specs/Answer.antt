@@ -4,7 +4,6 @@ use Rattle.sets.specs.Tests.{no, both, below}
 use Rattle.task.specs.declared.verdict.Verdict.{Verdict}
 use Rattle.task.specs.declared.verdict.Verdict.TheVariants.{Fine, Refused}
 use Rattle.task.specs.Tables.{Tables}
-use Rattle.task.specs.declared.task.Task.{Task}
 use Rattle.taskfile.specs.declared.cursor.Room.{Room}
 use Rattle.taskfile.specs.declared.read.Reading.{Reading}
 use Rattle.taskfile.specs.declared.read.Reading.TheVariants.{Sizes, Refused as NotRead}

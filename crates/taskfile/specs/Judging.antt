@@ -13,7 +13,7 @@ use Rattle.taskfile.specs.declared.format.Found.TheVariants.{Whole, Unknown, Bro
 use Rattle.taskfile.specs.declared.cursor.Cursor.{Cursor}
 use Rattle.taskfile.specs.declared.cursor.Judged.{Judged}
 use Rattle.taskfile.specs.declared.cursor.Judged.TheVariants.{On, Over}
-use Rattle.taskfile.specs.Records.{longest_file, found_at, size_of}
+use Rattle.taskfile.specs.Records.{longest_file, found_at}
 
 -- the refusal of that number at that place, where it applies
 unfoldable pub refused_at : ℕ → Bool → ℕ → Verdict

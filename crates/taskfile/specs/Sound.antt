@@ -1,8 +1,7 @@
 -- A sound file, said without a judge: the bytes of a head, start and goal facts, as many steps as the head says, each with its cost
 -- and its facts, and an end, whose numbers fit.
-use Rattle.std.specs.Prelude.{ℕ, suc, ◌≤◌, ◌≡◌, Bool, true, false, List, [], ◌∷◌, ◌++◌, length}
+use Rattle.std.specs.Prelude.{ℕ, ◌≤◌, ◌≡◌, Bool, true, List, [], ◌∷◌, ◌++◌, length}
 use Rattle.sets.specs.Tests.{Is, no, both, either, below, same}
-use Rattle.sets.specs.Sets.{Set}
 use Rattle.task.specs.Limits.{limits}
 use Rattle.task.specs.Check.{wrong_facts, wrong_steps}
 use Rattle.taskfile.specs.declared.format.Record.{Record}

@@ -6,7 +6,7 @@ ghost use Rattle.taskfile.specs.Answer.{fits_in};
 use task::Verdict;
 
 // How many words or costs the lent tables have room for.
-#[derive(Drop)]
+#[derive(Clone, Copy)]
 pub struct Room {
     pub needs: usize,
     pub sets: usize,
@@ -18,7 +18,7 @@ pub struct Room {
 
 // An offset in a file, with what the records before it say: the head's numbers, if it has been read,
 // and how many steps have begun.
-#[derive(Drop)]
+#[derive(Clone, Copy)]
 pub struct Cursor {
     pub at: usize,
     pub headed: bool,
@@ -28,7 +28,7 @@ pub struct Cursor {
 }
 
 // What comes of one record: the cursor after it, or the verdict on the file.
-#[derive(Drop)]
+#[derive(Clone, Copy)]
 pub enum Judged {
     On(Cursor),
     Over(Verdict),

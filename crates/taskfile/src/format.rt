@@ -4,7 +4,7 @@ ghost use Rattle.taskfile.specs.Records.{size_of, number_at, body_length, record
 
 // A record of the file: the end; the head with the numbers of facts and steps; the next step with its
 // cost; or a fact, with the kind that says what it is named for.
-#[derive(Drop)]
+#[derive(Clone, Copy)]
 pub enum Record {
     End,
     Head(u16, u16),
@@ -31,7 +31,7 @@ impl Record {
 
 // What stands at an offset of the file: a whole record, a kind that there is not, or a record that
 // the file ends inside of.
-#[derive(Drop)]
+#[derive(Clone, Copy)]
 pub enum Found {
     Whole(Record),
     Unknown,

@@ -3,6 +3,8 @@
 // No public function has a `requires`. A file is judged from its first record to its last before any
 // table is touched. The contracts cite specs/Answer.antt; specs/Sound.antt says without a judge what
 // a sound file is.
+#![tactic(auto)]
+
 mod cursor;
 mod fill;
 mod format;

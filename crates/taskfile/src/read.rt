@@ -11,7 +11,7 @@ use task::{Task, Verdict};
 
 // What reading answers: the sizes of the task, or document 01's number of what is wrong with the
 // file, with its place.
-#[derive(Drop)]
+#[derive(Clone, Copy)]
 pub enum Reading {
     Sizes(Task),
     Refused(u8, usize),
