@@ -1,5 +1,5 @@
 -- A text written from the beginning on is laid over the buffer: each byte takes the place of one, up to the buffer's end.
-use Prim.Native.Nat.{ℕ, suc, ◌+◌, ◌-◌, ◌≤◌, min}
+use Prim.Native.Nat.{ℕ, suc, ◌+◌, ◌≤◌, min}
 use mathlib.Core.Path.{◌≡◌, refl, sym, ap, ◌∙◌}
 use mathlib.Core.List.{List, [], ◌∷◌, ◌++◌}
 use native.Mathlib.Nat.{zero-min, min-zero, suc-min-suc, min-le_right, sub-add-min_cancel}

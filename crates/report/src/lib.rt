@@ -2,6 +2,8 @@
 //
 // `report` has no `requires`. Its contract cites specs/Report.antt, which has the whole text;
 // specs/Text.antt says what a line is. proofs/Lengths.antt has that no report is longer than LONGEST.
+#![tactic(auto)]
+
 use sets::Facts;
 use taskfile::Reading;
 
