@@ -17,10 +17,6 @@ use Rattle.task.specs.declared.task.Task.{Task as Sizes}
 use Rattle.taskfile.specs.declared.read.Reading.{Reading}
 use Rattle.taskfile.specs.declared.read.Reading.TheVariants.{Sizes as Read, Refused as NotRead}
 use Rattle.exports.specs.declared.answers.Answer.{Answer}
-use Rattle.exports.specs.declared.answers.ReachAnswer.{ReachAnswer}
-use Rattle.exports.specs.declared.answers.CutsAnswer.{CutsAnswer}
-use Rattle.exports.specs.declared.answers.ReplayAnswer.{ReplayAnswer}
-use Rattle.exports.specs.declared.answers.ReadAnswer.{ReadAnswer}
 use Rattle.exports.specs.Answers.{answer_of, reach_answer_of, cuts_answer_of, outcome_of, replay_answer_of, read_answer_of}
 use Rattle.exports.specs.Written.{set_written}
 

@@ -11,7 +11,7 @@ use taskfile::Reading;
 
 // Document 01's number of a refusal, and its place; both 0 where nothing is refused.
 #[repr(C)]
-#[derive(Drop)]
+#[derive(Clone, Copy)]
 pub struct Answer {
     pub number: u64,
     pub place: u64,
@@ -19,7 +19,7 @@ pub struct Answer {
 
 // The answer of reach: the number of passes beside it.
 #[repr(C)]
-#[derive(Drop)]
+#[derive(Clone, Copy)]
 pub struct ReachAnswer {
     pub number: u64,
     pub place: u64,
@@ -28,7 +28,7 @@ pub struct ReachAnswer {
 
 // The answer of cuts: the number of rounds and the floor beside it.
 #[repr(C)]
-#[derive(Drop)]
+#[derive(Clone, Copy)]
 pub struct CutsAnswer {
     pub number: u64,
     pub place: u64,
@@ -39,7 +39,7 @@ pub struct CutsAnswer {
 // The answer of a replay: outcome 0 done with the cost, 1 stuck at the entry `place`, 2 short of the
 // goal, 3 refused with number and place.
 #[repr(C)]
-#[derive(Drop)]
+#[derive(Clone, Copy)]
 pub struct ReplayAnswer {
     pub outcome: u64,
     pub number: u64,
@@ -49,7 +49,7 @@ pub struct ReplayAnswer {
 
 // The answer of reading: the numbers of facts and steps beside it, both 0 where the file is refused.
 #[repr(C)]
-#[derive(Drop)]
+#[derive(Clone, Copy)]
 pub struct ReadAnswer {
     pub number: u64,
     pub place: u64,

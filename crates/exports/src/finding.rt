@@ -12,8 +12,7 @@ use crate::answers::{Answer, ReachAnswer, ReplayAnswer};
 use task::Task;
 
 // What is wrong with a task's sizes and tables, if anything. Refusals 1 to 5.
-#[unsafe(no_mangle)]
-pub extern "C" fn salgezhim_check(
+pub fn salgezhim_check(
     facts: usize,
     steps: usize,
     needs: &[u64],
@@ -31,8 +30,7 @@ pub extern "C" fn salgezhim_check(
 }
 
 // The facts within reach, clearing ignored, and the number of passes. Refusals 1 to 5.
-#[unsafe(no_mangle)]
-pub extern "C" fn salgezhim_reach(
+pub fn salgezhim_reach(
     facts: usize,
     steps: usize,
     needs: &[u64],
@@ -55,8 +53,7 @@ pub extern "C" fn salgezhim_reach(
 }
 
 // What becomes of a walk, given by the numbers of its steps. Refusals 1 to 5, 8 and 9.
-#[unsafe(no_mangle)]
-pub extern "C" fn salgezhim_replay(
+pub fn salgezhim_replay(
     facts: usize,
     steps: usize,
     needs: &[u64],

@@ -10,8 +10,7 @@ use crate::answers::Answer;
 use task::Task;
 
 // The facts that every way to the goal passes. Refusals 1 to 5, and 7 where there is no way.
-#[unsafe(no_mangle)]
-pub extern "C" fn salgezhim_must_facts(
+pub fn salgezhim_must_facts(
     facts: usize,
     steps: usize,
     needs: &[u64],
@@ -34,8 +33,7 @@ pub extern "C" fn salgezhim_must_facts(
 }
 
 // The steps that every way to the goal takes. Refusals 1 to 5, and 7 where there is no way.
-#[unsafe(no_mangle)]
-pub extern "C" fn salgezhim_must_steps(
+pub fn salgezhim_must_steps(
     facts: usize,
     steps: usize,
     needs: &[u64],

@@ -10,8 +10,7 @@ use crate::answers::ReadAnswer;
 
 // Reads a task into the tables lent: 4m words of needs, sets and clears, m costs, 4 words of start and
 // goal. Refusals 1, 2, 5, 6 and 11 to 16, at offsets of the file.
-#[unsafe(no_mangle)]
-pub extern "C" fn salgezhim_read(
+pub fn salgezhim_read(
     file: &[u8],
     needs: &mut [u64],
     sets: &mut [u64],

@@ -12,8 +12,7 @@ use crate::answers::{Answer, CutsAnswer};
 use task::Task;
 
 // Writes the distance of each fact into the first n numbers lent. Refusals 1 to 6.
-#[unsafe(no_mangle)]
-pub extern "C" fn salgezhim_distances(
+pub fn salgezhim_distances(
     facts: usize,
     steps: usize,
     needs: &[u64],
@@ -33,8 +32,7 @@ pub extern "C" fn salgezhim_distances(
 }
 
 // Writes the must row of each fact, four words a fact, into the first 4n words lent. Refusals 1 to 6.
-#[unsafe(no_mangle)]
-pub extern "C" fn salgezhim_must_rows(
+pub fn salgezhim_must_rows(
     facts: usize,
     steps: usize,
     needs: &[u64],
@@ -55,8 +53,7 @@ pub extern "C" fn salgezhim_must_rows(
 
 // Writes the just-before row of each fact, four words a fact, into the first 4n words lent. Refusals
 // 1 to 6.
-#[unsafe(no_mangle)]
-pub extern "C" fn salgezhim_just_before_rows(
+pub fn salgezhim_just_before_rows(
     facts: usize,
     steps: usize,
     needs: &[u64],
@@ -77,8 +74,7 @@ pub extern "C" fn salgezhim_just_before_rows(
 
 // Writes the cut of each round, sixteen words each, its cost, and the costs left after all rounds.
 // Refusals 1 to 7.
-#[unsafe(no_mangle)]
-pub extern "C" fn salgezhim_cuts(
+pub fn salgezhim_cuts(
     facts: usize,
     steps: usize,
     needs: &[u64],
