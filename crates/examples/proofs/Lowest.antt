@@ -4,7 +4,6 @@ use mathlib.Core.Path.{◌≡◌, refl, sym, ◌∙◌}
 use mathlib.Core.Bool.{Bool, false}
 use mathlib.Core.List.{List, [], ◌∷◌, ◌++◌}
 use mathlib.Core.Logic.{◌⊎◌, inl, inr, ◌↔◌}
-use native.Mathlib.Omega.{arith}
 use Rattle.sets.specs.Tests.{Is}
 use Rattle.sets.proofs.Tests.{tell}
 use Rattle.task.specs.declared.verdict.Verdict.{Verdict}
