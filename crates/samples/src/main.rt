@@ -1,45 +1,34 @@
 // Prints the report on each file that an argument names, below its name.
-use libc::STDOUT_FILENO;
+#![tactic(auto)]
+
+use std::fs::File;
+use std::io::{Read, Write};
+use std::{env, io};
 
 // Prints the report on an open file.
-fn print_report(fd: i32) {
+fn print_report(rt: &HostRuntime, opened: File) -> io::Result<()> {
     // One byte more than the longest file has, so that a longer one is seen to be longer.
-    let mut file = [0u8; 65536];
-    let length = io::read_full(fd, &mut file);
+    let mut file = Vec::new(rt.alloc());
+    opened.take(65536).read_to_end(&mut file)?;
     let mut text = [0u8; report::LONGEST];
-    let written = report::report(&file[..length], &mut text);
-    io::write_all(STDOUT_FILENO, &text[..written]);
+    let written = report::report(file.as_slice(), &mut text);
+    io::writer(rt).write_all(&text[..written])
 }
 
 // Prints the name of a file on a line of its own, and the report on it.
-fn print_file(name: &[u8]) {
-    let fd = os::open_read(name);
-    if fd < 0 {
-        os::fail(name);
-        return;
+fn print_file(rt: &HostRuntime, name: &str) -> io::Result<()> {
+    match File::open(rt, name) {
+        Ok(opened) => {
+            println!(rt; "{name}")?;
+            print_report(rt, opened)
+        }
+        Err(error) => eprintln!(rt; "{name}: {error}"),
     }
-    io::write_all(STDOUT_FILENO, name);
-    io::write_all(STDOUT_FILENO, b"\n");
-    print_report(fd);
-    libc::close(fd);
 }
 
-// The argument of that number.
-fn print_argument(number: usize) {
-    let mut name = io::buffer();
-    let length = os::arg(number, &mut name);
-    if os::errno() != 0 {
-        os::fail(b"argument");
-        return;
+fn main(rt: HostRuntime) -> io::Result<()> {
+    for name in env::args(&rt)?.skip(1) {
+        print_file(&rt, name.as_str())?;
     }
-    print_file(&name[..length]);
-}
-
-fn main() {
-    let count = os::arg_count();
-    let mut number: usize = 1;
-    while number < count {
-        print_argument(number);
-        number += 1;
-    }
+    Ok(())
 }
