@@ -1,75 +1,48 @@
-// Writing a line of the output.
-use libc::STDOUT_FILENO;
+// Writing parts of a line of the output.
 use sets::{Facts, Steps};
+use std::io;
 use task::Verdict;
 
-// Writes a few bytes.
-pub fn say(text: &[u8]) {
-    io::write_all(STDOUT_FILENO, text);
-}
-
-// Writes a blank and a number.
-pub fn tell(n: u64) {
-    say(b" ");
-    io::print_decimal(STDOUT_FILENO, n);
-}
-
 // Writes a blank and each word.
-pub fn tell_all(words: &[u64]) {
-    let mut i = 0;
-    while i < words.len() {
-        tell(words[i]);
-        i += 1;
+pub fn tell_all(rt: &impl Print, words: &[u64]) -> io::Result<()> {
+    for word in words {
+        print!(rt; " {word}")?;
     }
+    Ok(())
 }
 
 // Writes a blank and each number.
-pub fn tell_numbers(numbers: &[u32]) {
-    let mut i = 0;
-    while i < numbers.len() {
-        tell(numbers[i] as u64);
-        i += 1;
+pub fn tell_numbers(rt: &impl Print, numbers: &[u32]) -> io::Result<()> {
+    for number in numbers {
+        print!(rt; " {number}")?;
     }
+    Ok(())
 }
 
 // Writes a blank and each member of a set, lowest first.
-pub fn tell_set(set: Facts) {
-    let mut left = set;
-    loop {
-        let f = left.lowest();
-        if f == Facts::ROOM {
-            return;
+pub fn tell_set(rt: &impl Print, set: Facts) -> io::Result<()> {
+    for f in 0..Facts::ROOM {
+        if set.has(f) {
+            print!(rt; " {f}")?;
         }
-        tell(f as u64);
-        left = left.without(f);
     }
+    Ok(())
 }
 
 // Writes a blank and each member of a set of steps, lowest first.
-pub fn tell_steps(set: Steps) {
-    let mut left = set;
-    loop {
-        let s = left.lowest();
-        if s == Steps::ROOM {
-            return;
+pub fn tell_steps(rt: &impl Print, set: Steps) -> io::Result<()> {
+    for s in 0..Steps::ROOM {
+        if set.has(s) {
+            print!(rt; " {s}")?;
         }
-        tell(s as u64);
-        left = left.without(s);
     }
+    Ok(())
 }
 
 // Writes what a check answered: nothing, or the refusal's number and place.
-pub fn answer(verdict: Verdict) {
+pub fn answer(rt: &impl Print, verdict: Verdict) -> io::Result<()> {
     match verdict {
-        Verdict::Fine => say(b": fine"),
-        Verdict::Refused(number, place) => {
-            say(b": refused");
-            tell(number as u64);
-            tell(place as u64);
-        }
+        Verdict::Fine => print!(rt; ": fine"),
+        Verdict::Refused(number, place) => print!(rt; ": refused {number} {place}"),
     }
-}
-
-pub fn end() {
-    say(b"\n");
 }
