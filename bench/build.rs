@@ -10,7 +10,7 @@ const ARM: &str = "aarch64";
 fn usual_folder() -> (&'static str, &'static str) {
     match env::var("CARGO_CFG_TARGET_ARCH").as_deref() {
         Ok(ARM) => ("../target/staticlib-arm", "bench/arm/library"),
-        _ => ("../target/staticlib", "rt staticlib exports"),
+        _ => ("../target/staticlib", "bindings/build"),
     }
 }
 
