@@ -16,3 +16,4 @@ pub mod CostsTaken
 pub mod StepsCounted
 pub mod FarthestFound
 pub mod GrownSets
+pub mod FloorDistance
