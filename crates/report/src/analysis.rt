@@ -20,8 +20,8 @@ pub(crate) fn read_report(
     goal: &[u64],
     out: &mut [u8],
 ) -> usize
-    requires steps_le_steps_room { task.steps ≤ steps_room }
-    requires steps_room_in_bounds { (4 * steps_room ≤ length needs.now) × (4 * steps_room ≤ length sets.now) × (4 * steps_room ≤ length clears.now) × (steps_room ≤ length costs.now) }
+    requires steps_bound { task.steps ≤ steps_room }
+    requires room { (4 * steps_room ≤ length needs.now) × (4 * steps_room ≤ length sets.now) × (4 * steps_room ≤ length clears.now) × (steps_room ≤ length costs.now) }
     ensures { page out.new result ≡ written (task_text (tables task.facts task.steps (take (4 * task.steps) needs.now) (take (4 * task.steps) sets.now) (take (4 * task.steps) clears.now) (take task.steps costs.now) start.now goal.now)) (page out.old 0) }
 {
     let m = task.steps;
@@ -75,8 +75,8 @@ fn round_lines(
     out: &mut [u8],
     at: usize,
 ) -> usize
-    requires steps_le_steps_room { task.steps ≤ steps_room }
-    requires goal_value { pass_verdict (tables task.facts task.steps needs.now sets.now clears.now costs.now start.now goal.now) ≡ Verdict.Fine }
+    requires steps_bound { task.steps ≤ steps_room }
+    requires fine { pass_verdict (tables task.facts task.steps needs.now sets.now clears.now costs.now start.now goal.now) ≡ Verdict.Fine }
     ensures { page out.new result ≡ written (round_lines (tables task.facts task.steps needs.now sets.now clears.now costs.now start.now goal.now)) (page out.old at) }
 {
     let mut rows = [0u64; Steps::WORDS * STEPS];

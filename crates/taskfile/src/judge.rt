@@ -64,8 +64,8 @@ pub fn judge_next(file: &[u8], room: Room, cursor: Cursor) -> Judged
 
 // Where a sound record leads: on, past it, or after an end to the verdict on the file.
 fn go_on(size: usize, room: Room, cursor: Cursor, item: Record) -> Judged
-    requires item_bound { cursor.at + size_of item ≤ size }
-    requires item_value { record_verdict (fits_in room) cursor item ≡ Fine }
+    requires inside { cursor.at + size_of item ≤ size }
+    requires fine { record_verdict (fits_in room) cursor item ≡ Fine }
     ensures { result ≡ went_on size cursor item }
 {
     match item {

@@ -8,8 +8,8 @@ pub read_report-requires : goal.read_report-requires
 read_report-requires c =
     let bytes = c.type_inv.file in
     record {
-      steps_le_steps_room = read_few _ _ c.read_task-reading.ensures.answer _ c.in-Sizes.is (λ i. omega (arith, bytes i));
-      steps_room_in_bounds = search rules;
+      steps_bound = read_few _ _ c.read_task-reading.ensures.answer _ c.in-Sizes.is (λ i. omega (arith, bytes i));
+      room = search rules;
     }
 
 pub returns-in-Refused : goal.returns-in-Refused

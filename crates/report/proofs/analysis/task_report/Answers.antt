@@ -7,8 +7,8 @@ returns-in-Refused c =
 
 pub round_lines-requires : goal.round_lines-requires
 round_lines-requires c = record {
-  steps_le_steps_room = c.requires;
-  goal_value = pass_told _ _ c.must_pass-passed.ensures _ c.in_default.is;
+  steps_bound = c.requires;
+  fine = pass_told _ _ c.must_pass-passed.ensures _ c.in_default.is;
 }
 
 pub returns : goal.returns

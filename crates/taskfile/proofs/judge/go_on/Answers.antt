@@ -4,7 +4,7 @@ use Rattle.taskfile.proofs.Verdicts.{step_counted, after_end, after_head, after_
 use Rattle.taskfile.proofs.judge.go_on.Goals as goal
 
 pub overflow_add-result-in-Step-2 : goal.overflow_add-result-in-Step-2
-overflow_add-result-in-Step-2 c = omega (arith, step_counted _ _ _ c.in-Step.is c.requires.item_value)
+overflow_add-result-in-Step-2 c = omega (arith, step_counted _ _ _ c.in-Step.is c.requires.fine)
 
 pub returns-in-End : goal.returns-in-End
 returns-in-End c = search (rules, after_end)
