@@ -2,7 +2,7 @@
 // several needs the farthest counts.
 //
 // `distances` finds them for a task. `begin_distances` and `settle` are its two halves, for a caller
-// that lowers costs and goes on from the distances under the old ones: `settled-distances` in
+// that lowers costs and goes on from the distances under the old ones: `settled_distances` in
 // proofs/Relaxing.antt tells from which tables `settle` ends in the distances.
 //
 // No public function has a `requires`. The contracts cite specs/Distance.antt and specs/Answer.antt;

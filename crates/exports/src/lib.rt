@@ -2,11 +2,10 @@
 // document 01 as a function of plain numbers and tables, over the proved one of the same meaning.
 //
 // A table is a slice; a set that comes back is an array of four words (facts) or sixteen (steps), so that
-// it cannot be too short. An answer is a struct
-// of numbers: document 01's number of a refusal and its place, both 0 where nothing is refused, and
-// beside them what the operation counts. A refusal leaves every table and set as it was. No function has
-// a `requires`, and the contracts cite the definitions of the library's own functions through
-// specs/Answers.antt and specs/Written.antt.
+// it cannot be too short. An answer is a struct of numbers: document 01's number of a refusal and its
+// place, both 0 where nothing is refused, and beside them what the operation counts. A refusal leaves
+// every table and set as it was. No function has a `requires`, and the contracts cite the definitions of
+// the library's own functions through specs/Answers.antt and specs/Written.antt.
 //
 // The row of a step has no function here: it is four words of the caller's own table of needs or sets,
 // from 4 times the step number on.

@@ -50,7 +50,7 @@ steps_room = 256
 abbrev pub report_room : Room
 report_room = room_of (4 * steps_room) (4 * steps_room) (4 * steps_room) steps_room 4 4
 
--- the most bytes that a report has, by `report-short` in proofs/Lengths.antt; `LONGEST`
+-- the most bytes that a report has, by `report_short` in proofs/Lengths.antt; `LONGEST`
 abbrev pub longest_report : ℕ
 longest_report = 300000
 

@@ -252,11 +252,11 @@ module _ (room : ℕ → Bool) (n m : ℕ) (few : n ≤ 256) where
   unfolding block_records all_of block_fits fits_after
   follow_blocks [] b at h e = last (end_goes room at n m b (omega arith))
   follow_blocks (x ∷ bs) b at h e =
-      let x_Fits = both_l _ _ h in
-      let parts : Is (all_of (fits_after n (b + 1)) x.parts) = rw (add-one b) (both_r _ _ x_Fits) in
+      let x_fits = both_l _ _ h in
+      let parts : Is (all_of (fits_after n (b + 1)) x.parts) = rw (add-one b) (both_r _ _ x_fits) in
       rw (block_rest x bs)
       (next no_end_step
-      (step_goes room at n m b x.cost (below_not 65535 x.cost (no_false _ (both_l _ _ x_Fits))) (omega arith))
+      (step_goes room at n m b x.cost (below_not 65535 x.cost (no_false _ (both_l _ _ x_fits))) (omega arith))
       (follow_namings (b + 1) (at + 5) x.parts _ parts (λ k. follow_blocks bs (b + 1) k (both_r _ _ h) (omega arith))))
 
 -- from the beginning
