@@ -25,28 +25,28 @@ use Rattle.task.proofs.Sizes.{sized}
 
 -- ---- the tests behind it: each answer of `right_lengths`, `only_facts`, `right_sets` and `right_costs`
 
-module _ (m rules sets clears costs start goal : ℕ) where
-  pub lengths_needs : ¬ (rules ≡ 4 * m) → false ≡ right_lengths m rules sets clears costs start goal
+module _ (m needs sets clears costs start goal : ℕ) where
+  pub lengths_needs : ¬ (needs ≡ 4 * m) → false ≡ right_lengths m needs sets clears costs start goal
   unfolding right_lengths
   lengths_needs d = sym (both_false_l _ _ (same_false _ _ d))
 
-  pub lengths_sets : ¬ (sets ≡ 4 * m) → false ≡ right_lengths m rules sets clears costs start goal
+  pub lengths_sets : ¬ (sets ≡ 4 * m) → false ≡ right_lengths m needs sets clears costs start goal
   unfolding right_lengths
   lengths_sets d = sym (both_false_r _ _ (both_false_l _ _ (same_false _ _ d)))
 
-  pub lengths_clears : ¬ (clears ≡ 4 * m) → false ≡ right_lengths m rules sets clears costs start goal
+  pub lengths_clears : ¬ (clears ≡ 4 * m) → false ≡ right_lengths m needs sets clears costs start goal
   unfolding right_lengths
   lengths_clears d = sym (both_false_r _ _ (both_false_r _ _ (both_false_l _ _ (same_false _ _ d))))
 
-  pub lengths_costs : ¬ (costs ≡ m) → false ≡ right_lengths m rules sets clears costs start goal
+  pub lengths_costs : ¬ (costs ≡ m) → false ≡ right_lengths m needs sets clears costs start goal
   unfolding right_lengths
   lengths_costs d = sym (both_false_r _ _ (both_false_r _ _ (both_false_r _ _ (both_false_l _ _ (same_false _ _ d)))))
 
-  pub lengths_start : ¬ (start ≡ 4) → false ≡ right_lengths m rules sets clears costs start goal
+  pub lengths_start : ¬ (start ≡ 4) → false ≡ right_lengths m needs sets clears costs start goal
   unfolding right_lengths
   lengths_start d = sym (both_false_r _ _ (both_false_r _ _ (both_false_r _ _ (both_false_r _ _ (both_false_l _ _ (same_false _ _ d))))))
 
-  pub lengths_goal : rules ≡ 4 * m → sets ≡ 4 * m → clears ≡ 4 * m → costs ≡ m → start ≡ 4 → eqb goal 4 ≡ right_lengths m rules sets clears costs start goal
+  pub lengths_goal : needs ≡ 4 * m → sets ≡ 4 * m → clears ≡ 4 * m → costs ≡ m → start ≡ 4 → eqb goal 4 ≡ right_lengths m needs sets clears costs start goal
   unfolding right_lengths both
   lengths_goal a b c d e = sym (simp (same_true _ _ a, same_true _ _ b, same_true _ _ c, same_true _ _ d, same_true _ _ e) (same_is goal 4))
 
@@ -71,25 +71,25 @@ module _ (n : ℕ) (table : List ℕ) where
   unfolding only_facts
   facts_end i l k h = let e : i ≡ length table / 4 = omega arith in sym (rw e at h)
 
-module _ (n : ℕ) (rules sets clears start goal : List ℕ) {p : Bool} where
-  pub sets_needs : p ≡ only_facts n rules → not p ≡ true → false ≡ right_sets n rules sets clears start goal
+module _ (n : ℕ) (needs sets clears start goal : List ℕ) {p : Bool} where
+  pub sets_needs : p ≡ only_facts n needs → not p ≡ true → false ≡ right_sets n needs sets clears start goal
   unfolding right_sets
   sets_needs e h = sym (both_false_l _ _ (sym e ∙ not-true p h))
 
-  pub sets_sets : p ≡ only_facts n sets → not p ≡ true → false ≡ right_sets n rules sets clears start goal
+  pub sets_sets : p ≡ only_facts n sets → not p ≡ true → false ≡ right_sets n needs sets clears start goal
   unfolding right_sets
   sets_sets e h = sym (both_false_r _ _ (both_false_l _ _ (sym e ∙ not-true p h)))
 
-  pub sets_clears : p ≡ only_facts n clears → not p ≡ true → false ≡ right_sets n rules sets clears start goal
+  pub sets_clears : p ≡ only_facts n clears → not p ≡ true → false ≡ right_sets n needs sets clears start goal
   unfolding right_sets
   sets_clears e h = sym (both_false_r _ _ (both_false_r _ _ (both_false_l _ _ (sym e ∙ not-true p h))))
 
-  pub sets_start : p ≡ only_facts n start → not p ≡ true → false ≡ right_sets n rules sets clears start goal
+  pub sets_start : p ≡ only_facts n start → not p ≡ true → false ≡ right_sets n needs sets clears start goal
   unfolding right_sets
   sets_start e h = sym (both_false_r _ _ (both_false_r _ _ (both_false_r _ _ (both_false_l _ _ (sym e ∙ not-true p h)))))
 
-  pub sets_goal : {a b c d : Bool} → a ≡ only_facts n rules → b ≡ only_facts n sets → c ≡ only_facts n clears → d ≡ only_facts n start → p ≡ only_facts n goal
-      → not a ≡ false → not b ≡ false → not c ≡ false → not d ≡ false → p ≡ right_sets n rules sets clears start goal
+  pub sets_goal : {a b c d : Bool} → a ≡ only_facts n needs → b ≡ only_facts n sets → c ≡ only_facts n clears → d ≡ only_facts n start → p ≡ only_facts n goal
+      → not a ≡ false → not b ≡ false → not c ≡ false → not d ≡ false → p ≡ right_sets n needs sets clears start goal
   unfolding right_sets both
   sets_goal {a} {b} {c} {d} ea eb ec ed ep ha hb hc hd =
       ep ∙ sym (simp (sym ea, sym eb, sym ec, sym ed, not-false a ha, not-false b hb, not-false c hc, not-false d hd))
