@@ -3,8 +3,9 @@ use Prim.Native.Nat.{ℕ, ◌^◌, ◌%◌}
 use mathlib.Core.Path.{◌≡◌, refl}
 use mathlib.Core.List.{List, [], ◌∷◌}
 use native.Mathlib.Omega.{arith}
+use Rattle.std.specs.Prelude.{Some, None}
 use Rattle.sets.specs.Tests.{either, below, same, pick}
-use Rattle.sets.specs.Sets.{none, up_to, added, one, count, lowest, members}
+use Rattle.sets.specs.Sets.{none, up_to, added, one, count, lowest, lowest_if_any, members}
 use Rattle.sets.specs.Words.{bit, has, word_of, words_of, row}
 
 -- ---- fact f is bit f mod 64 of word f div 64
@@ -55,6 +56,15 @@ three_size = refl
 three_lowest : lowest 256 (has three) ≡ 63
 unfolding lowest has bit same pick below three
 three_lowest = refl
+
+-- where there is a member, and not 256 or 0 where there is none
+three_has_lowest : lowest_if_any 256 (has three) ≡ Some 63
+unfolding lowest_if_any lowest has bit same pick below three
+three_has_lowest = refl
+
+none_has_lowest : lowest_if_any 256 none ≡ None
+unfolding lowest_if_any lowest none pick below
+none_has_lowest = refl
 
 -- ---- a row past the table's end holds nothing, and one that the end cuts short what is there
 

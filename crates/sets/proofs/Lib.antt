@@ -1,10 +1,11 @@
 pub mod Tests
 pub mod Sets
-pub mod Bits
+pub mod OneWord
 pub mod Words
 pub mod Rows
 pub mod Writing
 pub mod Loops
 pub mod Methods
 pub mod Listing
+pub mod Visiting
 pub mod Examples

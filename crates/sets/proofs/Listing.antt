@@ -1,20 +1,21 @@
 -- Listing a set lowest first visits each member once, in order: by induction on the bound, where the list of the members below n + 1 ends in n or not.
 -- So a loop that takes the lowest member out until none is left goes through `members` from its first to its last.
 use Prim.Native.Nat.{ℕ, zero, suc, ◌*◌, ◌<◌}
-use mathlib.Core.Path.{◌≡◌, refl, sym, ap, ◌∙◌, fun_ext}
-use mathlib.Core.Bool.{false}
+use mathlib.Core.Path.{◌≡◌, refl, sym, ap, ap₂, ◌∙◌}
+use mathlib.Core.Bool.{Bool, false}
 use mathlib.Core.Logic.{◌⊎◌, inl, inr, ◌↔◌}
 use mathlib.Core.List.Memᴰ
 use mathlib.Core.List.{List, [], ◌∷◌, ◌++◌, append-nil, Memᴰ}
 use native.Mathlib.Nat.{not-suc-le-zero}
 use native.Mathlib.Omega.{arith}
 use lib.ListN.{length, length-append}
-use Rattle.sets.specs.Tests.{Is, no, both, same}
-use Rattle.sets.specs.Sets.{Set, dropped, removed, one, count, lowest, members}
-use Rattle.sets.proofs.Tests.{tell, fails, not_both_ways, both_r, same_at, same_not, pick_true, pick_false}
+use Rattle.std.specs.Prelude.{Some, None}
+use Rattle.sets.specs.Tests.{Is, no, same, pick}
+use Rattle.sets.specs.Sets.{Set, dropped, one, count, lowest, lowest_if_any, members}
+use Rattle.sets.proofs.Tests.{tell, both_r, same_at, same_not, pick_true, pick_false}
 use Rattle.sets.specs.Words.{has, words_of}
-use Rattle.sets.proofs.Sets.{last, dropped_itself, dropped_other, removed_true, removed_at, count_same, count_dropped, lowest_is}
-use Rattle.sets.proofs.Words.{has_made, made_has, has_lt, length_words_of}
+use Rattle.sets.proofs.Sets.{last, dropped_itself, dropped_other, count_same, count_dropped, lowest_is, lowest_some, lowest_none}
+use Rattle.sets.proofs.Words.{has_made, made_has, length_words_of}
 
 -- one number further
 members_more : (n : ℕ) (X : Set) → Is (X n) → members (suc n) X ≡ members n X ++ (n ∷ [])
@@ -59,6 +60,28 @@ listing_next n X l = members_first n X (lowest n X) l (lowest_is n X).least ((lo
 pub listing_end : (n : ℕ) (X : Set) → lowest n X ≡ n → members n X ≡ []
 listing_end n X e = members_none n X (λ f l. (lowest_is n X).least f (omega arith))
 
+-- sets with the same members have the same list
+pub members_same : (n : ℕ) (X Y : Set) → ((f : ℕ) → f < n → X f ≡ Y f) → members n X ≡ members n Y
+unfolding members
+members_same zero X Y h = refl
+members_same (suc n) X Y h =
+    ap₂ (λ (l : List ℕ) (p : Bool). l ++ pick p (n ∷ []) []) (members_same n X Y (λ f l. h f (omega arith))) (h n (omega arith))
+
+-- ---- one turn of the iterator over the members of k words: what it gives, and what is left
+
+pub gives_lowest : (k : ℕ) (a b : List ℕ) (f : ℕ) → length a ≡ k → Some f ≡ lowest_if_any (length a * 64) (has a) → b ≡ words_of k (dropped (has a) f)
+    → members (k * 64) (has a) ≡ f ∷ members (k * 64) (has b)
+gives_lowest k a b f size found rest =
+    let r = lowest_some (length a * 64) (has a) f found in
+    let e : f ≡ lowest (k * 64) (has a) = r.0 ∙ ap (λ (n : ℕ). lowest (n * 64) (has a)) size in
+    listing_next (k * 64) (has a) (omega (arith, e, r.1))
+    ∙ ap₂ (λ (g : ℕ) (l : List ℕ). g ∷ l) (sym e)
+    (members_same (k * 64) _ (has b) (λ g l. ap (λ (h : ℕ). dropped (has a) h g) (sym e) ∙ sym (has_made k b _ rest g l)))
+
+pub gives_none : (k : ℕ) (a : List ℕ) → length a ≡ k → None ≡ lowest_if_any (length a * 64) (has a) → members (k * 64) (has a) ≡ []
+gives_none k a size found =
+    listing_end (k * 64) (has a) (rw (sym size) (lowest_none (length a * 64) (has a) found))
+
 -- ---- a turn of a loop that takes the lowest member out
 
 -- none is left
@@ -98,7 +121,7 @@ module _ (k : ℕ) (a b : List ℕ) (f : ℕ) (found : f ≡ lowest (k * 64) (ha
           | inr d ↦ inr (has_made k b _ rest g l ∙ dropped_other (has a) f g (same_not g f d) ∙ h)
         ]
 
--- ---- such a loop over the members of X: k words of them are left, and `removed X (has left)` has been gone through
+-- ---- such a loop over the members of X: k words of them are left
 
 pub record Left (k : ℕ) (X : Set) (left : List ℕ) : Type 0 where
   pub size : length left ≡ k
@@ -106,49 +129,6 @@ pub record Left (k : ℕ) (X : Set) (left : List ℕ) : Type 0 where
 
 pub left_made : (k : ℕ) (X : Set) (a : List ℕ) → a ≡ words_of k X → Left k X a
 left_made k X a e = record { size = ap length e ∙ length_words_of k X; inside = made_has k a X e }
-
-pub left_all : (k : ℕ) (a : List ℕ) → length a ≡ k → Left k (has a) a
-left_all k a e = record { size = e; inside = λ f h. h }
-
--- nothing has been gone through yet
-pub through_none : (X : Set) (a : List ℕ) → ((g : ℕ) → Is (X g) → Is (has a g)) → (f : ℕ) → removed X (has a) f ≡ false
-through_none X a all f = fails _ (λ h. let r = removed_at X (has a) f h in not_both_ways (all f r.0) r.1)
-
-module _ (k : ℕ) (X : Set) (a : List ℕ) {f : ℕ} (left : Left k X a) (found : f ≡ lowest (k * 64) (has a)) where
-  -- all of X has been
-  pub through_all : f ≡ k * 64 → removed X (has a) ≡ X
-  unfolding removed both no
-  through_all e =
-      fun_ext (λ g. let out : has a g ≡ false = fails (has a g) (λ h.
-      not_both_ways h (listing_none k a f found e g (omega (arith, has_lt a g h, left.size)))) in rw out)
-
-  module _ (b : List ℕ) (some : ¬ (f ≡ k * 64)) (rest : b ≡ words_of k (dropped (has a) f)) where
-    pub left_next : Left k X b
-    left_next = record {
-      size = ap length rest ∙ length_words_of k _;
-      inside = λ g h. left.inside g (listing_kept k a b f found some rest g h);
-    }
-
-    -- what had been gone through, and the number
-    pub through_itself : Is (removed X (has b) f)
-    through_itself =
-        removed_true X (has b) f (left.inside f (listing_member k a b f found some)) (listing_gone k a b f found some rest)
-
-    pub through_kept : (g : ℕ) → Is (removed X (has a) g) → Is (removed X (has b) g)
-    through_kept g h =
-        let r = removed_at X (has a) g h in
-        removed_true X (has b) g r.0 (fails (has b g) (λ l. not_both_ways (listing_kept k a b f found some rest g l) r.1))
-
-    pub through_cases : (g : ℕ) → Is (removed X (has b) g) → (g ≡ f) ⊎ Is (removed X (has a) g)
-    through_cases g h =
-        let r = removed_at X (has b) g h in
-        elim (tell (has a g)) [
-          | inl l ↦ elim (listing_cases k a b f found some rest g (omega (arith, has_lt a g l, left.size)) l) [
-            | inl e ↦ inl e
-            | inr m ↦ not_both_ways m r.1
-          ]
-          | inr l ↦ inr (removed_true X (has a) g r.0 l)
-        ]
 
 -- ---- which numbers are listed, and how many
 

@@ -1,7 +1,7 @@
 -- Laws of the loops over words: what a turn adds to the loop's invariant, and what the invariant says at the end. Each is by the words' laws at word i.
 use Prim.Native.Nat.{ℕ, ◌+◌, ◌-◌, ◌*◌, ◌/◌, ◌%◌, ◌^◌, ◌≤◌, ◌<◌, min}
 use mathlib.Core.Path.{◌≡◌, refl, sym, ap, ap₂, ◌∙◌}
-use mathlib.Core.Bool.{Bool, true, false}
+use mathlib.Core.Bool.{Bool, false, ◌&&◌}
 use mathlib.Core.Logic.{inl, inr}
 use mathlib.Core.List.{List}
 use native.Mathlib.Nat.{not-suc-le-zero, mod-lt, lt_of_le_of_lt, one-mul}
@@ -9,18 +9,19 @@ use native.Mathlib.Omega.{arith}
 use borrow.Author.Rules.{rules}
 use mir.Syntax.{w64}
 use mir.Val.{Fits}
-use lib.Dec.{lit<}
+use lib.Dec.{lit<, eqb}
 use lib.Pow.{shl_exact}
 use lib.Bits.{bit_and, bit_or, and_le_l, or_lt}
-use lib.Count.{count_trailing_zeros, trailing_le}
+use lib.Count.{count_trailing_zeros}
 use lib.ListN.{length, get_or, take, drop, set, length-set, length-drop, get_or-eq_default}
 use lib.Seq.{take_all, get_or-drop, get_or-set_same, get_or-set_other}
-use Rattle.sets.specs.Tests.{Is, no, both, either}
-use Rattle.sets.specs.Sets.{Set, up_to, joined, met, removed, within, lowest}
+use Rattle.std.specs.Prelude.{Some, None}
+use Rattle.sets.specs.Tests.{Is, no, both, either, same}
+use Rattle.sets.specs.Sets.{Set, up_to, joined, met, removed, within, lowest_if_any}
 use Rattle.sets.specs.Words.{bit, has, words_of, row}
-use Rattle.sets.proofs.Tests.{not_both_ways, both_l, both_r, both_true, no_true, no_false, tell, below_true, below_iff, compare}
-use Rattle.sets.proofs.Sets.{lowest_only, within_at, within_true, within_fails}
-use Rattle.sets.proofs.Bits.{bit_of_zero, bit_of_or, bit_of_and, bit_less, bit_mask, below_trailing, at_trailing, trailing_lt}
+use Rattle.sets.proofs.Tests.{not_both_ways, equal_tests, both_is, same_is, same_at, same_not, both_l, both_r, both_true, no_true, no_false, tell, below_true, below_iff, compare}
+use Rattle.sets.proofs.Sets.{some_lowest, no_lowest, within_at, within_true, within_fails}
+use Rattle.sets.proofs.OneWord.{bit_of_zero, bit_of_or, bit_of_and, bit_less, bit_mask, trailing}
 use Rattle.sets.proofs.Words.{has_at, has_in, words_only, row_word}
 
 -- ---- a loop that writes the words of a set X over those of start, word by word: the first i are written
@@ -57,12 +58,12 @@ module _ (X : Set) (start : List ℕ) where
     rest = λ k l. get_or-set_other words i k w 0 (λ e. omega arith) ∙ v.rest k (omega arith);
   }
 
-  pub write_end : (words : List ℕ) (i : ℕ) → length words ≤ i → Written X start words i → words ≡ words_of (length start) X
+  pub write_end : (words : List ℕ) (i : ℕ) → length start ≤ i → Written X start words i → words ≡ words_of (length start) X
   write_end words i h v =
       words_only (length start) words X v.long
       (λ k. elim (compare k i) [
         | inl l ↦ v.fit k l
-        | inr l ↦ rw (get_or-eq_default words 0 {n = k} (omega arith)) (lit< tt)
+        | inr l ↦ rw (get_or-eq_default words 0 {n = k} (omega (arith, v.long))) (lit< tt)
       ])
       (λ f l. v.done f (omega (arith, v.long)))
 
@@ -167,17 +168,24 @@ module _ (a b : List ℕ) (i w : ℕ) (e : w ≡ get_or b i 0) where
             | inr y ↦ not_both_ways (left_over g j l ∙ both_true _ _ (no_true _ y) x) (ap (λ (n : ℕ). bit n j) z ∙ bit_of_zero j)
           ]
 
-  pub within_stop : i < length a → Fits w64 (get_or a i 0) → Fits w64 w → ¬ (bit_and (get_or a i 0) ((2 ^ 64 - 1) - w) ≡ 0)
-      → false ≡ within (length a * 64) (has a) (has b)
-  within_stop h f g d =
-      let t : count_trailing_zeros 64 (bit_and (get_or a i 0) ((2 ^ 64 - 1) - w)) < 64
-      = trailing_lt 64 _ (lt_of_le_of_lt (and_le_l (get_or a i 0) ((2 ^ 64 - 1) - w)) f.fits) d in
-      let s = sym (left_over g _ t) ∙ at_trailing 64 _ t in
-      sym (within_fails (length a * 64) (has a) (has b) _ (omega arith) (both_r _ _ s) (no_false _ (both_l _ _ s)))
+  -- one word more decides by what of it is left over
+  pub within_more : Fits w64 (get_or a i 0) → Fits w64 w → both (within (i * 64) (has a) (has b)) (same (bit_and (get_or a i 0) ((2 ^ 64 - 1) - w)) 0)
+      ≡ within ((i + 1) * 64) (has a) (has b)
+  within_more f g =
+      equal_tests _ _ (λ h. within_next g (same_at _ 0 (both_r _ _ h)) (both_l _ _ h)) (λ h. both_true _ _
+      (within_true (i * 64) (has a) (has b) (λ k l x. within_at ((i + 1) * 64) (has a) (has b) h k (omega arith) x))
+      (elim (tell (same (bit_and (get_or a i 0) ((2 ^ 64 - 1) - w)) 0)) [ inl z ↦ z | inr d ↦ not_both_ways h (stops (same_not _ 0 d)) ]))
+    where
+      stops : ¬ (bit_and (get_or a i 0) ((2 ^ 64 - 1) - w) ≡ 0) → within ((i + 1) * 64) (has a) (has b) ≡ false
+      stops d =
+          let t = trailing _ (lt_of_le_of_lt (and_le_l (get_or a i 0) ((2 ^ 64 - 1) - w)) f.fits) d in
+          let s = sym (left_over g _ t.small) ∙ t.set in
+          within_fails ((i + 1) * 64) (has a) (has b) _ (omega (arith, t.small)) (both_r _ _ s) (no_false _ (both_l _ _ s))
 
-pub within_end : (a b : List ℕ) (i : ℕ) → i ≤ length a → length a ≤ i → Is (within (i * 64) (has a) (has b))
-    → true ≡ within (length a * 64) (has a) (has b)
-within_end a b i h g v = let e : i ≡ length a = omega arith in sym (rw e at v)
+  pub within_word : {r : Bool} → Fits w64 (get_or a i 0) → Fits w64 w → r ≡ within (i * 64) (has a) (has b)
+      → (r && eqb (bit_and (get_or a i 0) ((2 ^ 64 - 1) - w)) 0) ≡ within ((i + 1) * 64) (has a) (has b)
+  within_word {r} f g v =
+      ap₂ ◌&&◌ v (sym (same_is (bit_and (get_or a i 0) ((2 ^ 64 - 1) - w)) 0)) ∙ sym (both_is _ _) ∙ within_more f g
 
 -- ---- the lowest member: those below i * 64 are none
 
@@ -190,28 +198,20 @@ lowest_next ws i e v f l =
     ]
 
 pub lowest_found : (ws : List ℕ) (i : ℕ) → i < length ws → Fits w64 (get_or ws i 0) → ¬ (get_or ws i 0 ≡ 0) → ((f : ℕ) → f < i * 64 → has ws f ≡ false)
-    → i * 64 + count_trailing_zeros 64 (get_or ws i 0) ≡ lowest (length ws * 64) (has ws)
+    → Some (i * 64 + count_trailing_zeros 64 (get_or ws i 0)) ≡ lowest_if_any (length ws * 64) (has ws)
 lowest_found ws i h fits d v =
-    let t : count_trailing_zeros 64 (get_or ws i 0) < 64 = trailing_lt 64 (get_or ws i 0) fits.fits d in
-    lowest_only (length ws * 64) (has ws) _ record {
+    let t = trailing (get_or ws i 0) fits.fits d in
+    some_lowest (length ws * 64) (has ws) _ record {
       least = λ f l. elim (compare f (i * 64)) [
         | inl k ↦ v f k
-        | inr k ↦ has_in ws i f (omega arith) ∙ below_trailing 64 (get_or ws i 0) (f % 64) (omega arith)
+        | inr k ↦ has_in ws i f (omega (arith, t.small)) ∙ t.least (f % 64) (omega (arith, t.small))
       ];
-      member = λ l. has_at ws i (count_trailing_zeros 64 (get_or ws i 0)) t ∙ at_trailing 64 (get_or ws i 0) t;
-      most = omega arith;
-    }
+      member = λ l. has_at ws i (count_trailing_zeros 64 (get_or ws i 0)) t.small ∙ t.set;
+      most = omega (arith, t.small);
+    } (omega (arith, t.small))
 
-pub lowest_none : (ws : List ℕ) (i : ℕ) → i ≤ length ws → length ws ≤ i → ((f : ℕ) → f < i * 64 → has ws f ≡ false)
-    → i * 64 ≡ lowest (length ws * 64) (has ws)
-lowest_none ws i h g v = lowest_only (length ws * 64) (has ws) (i * 64) record { least = v; member = λ l. absurd (omega arith); most = omega arith }
-
--- a bit's place in its word fits, and so does its number in so few words
-pub place_fits : (w : ℕ) → Fits w64 (count_trailing_zeros 64 w)
-place_fits w = omega (arith, trailing_le 64 w)
-
-pub number_fits : (i w n : ℕ) → i < n → n ≤ 16 → Fits w64 (i * 64 + count_trailing_zeros 64 w)
-number_fits i w n h l = omega (arith, trailing_le 64 w)
+pub lowest_missing : (ws : List ℕ) (i : ℕ) → length ws ≤ i → ((f : ℕ) → f < i * 64 → has ws f ≡ false) → None ≡ lowest_if_any (length ws * 64) (has ws)
+lowest_missing ws i g v = no_lowest (length ws * 64) (has ws) (λ f l. v f (omega arith))
 
 -- ---- what the needs of the loops that write are found from
 

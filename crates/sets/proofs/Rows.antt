@@ -7,10 +7,9 @@ use mathlib.Core.List.{List, ◌++◌, append_assoc}
 use native.Mathlib.Nat.{zero-mul, mul-zero, suc-mul, mul-le-mul_right}
 use native.Mathlib.Numerals.{add-one}
 use native.Mathlib.Omega.{arith}
-use borrow.Author.Rules.{rules}
 use lib.Dec.{lit<}
 use lib.ListN.{length, get_or, take, drop, set, take-append-drop, length-append, length-take, length-drop, length-set, get_or-eq_default, get_or-append}
-use lib.Seq.{take_all, take_at, drop_at, take-take, take-append-le, drop-append-le, drop-append-add, drop-drop, take-add, get_or-append-add, get_or-take, get_or-drop, paste, paste-zero, paste-suc}
+use lib.Seq.{take_all, take_at, drop_at, take-append-le, drop-append-le, drop-append-add, drop-drop, take-add, get_or-append-add, get_or-take, get_or-drop, paste, paste-suc}
 use Rattle.sets.specs.Sets.{Set}
 use Rattle.sets.specs.Words.{has, words_of, row, with_row, table_of, Words}
 use Rattle.sets.proofs.Tests.{below_true, below_false, pick_true, pick_false, compare}
@@ -86,20 +85,6 @@ with_row_beyond k i w t p e h =
           ∙ ap (λ (n : ℕ). drop n t) r
     ]
 
--- the words before the row stay
-pub with_row_before : (k i : ℕ) (w t : List ℕ) (p : ℕ) → p ≤ i * k → take p (with_row k i w t) ≡ take p t
-with_row_before k i w t p h =
-    elim (compare (length t) (i * k + k)) [
-      | inl l ↦ ap (take p) (with_row_outside k i w t l)
-      | inr l ↦ ap (take p) (with_row_inside k i w t l) ∙ front (i * k) l h
-    ]
-  where
-    front : (s : ℕ) → s + k ≤ length t → p ≤ s → take p (take s t ++ w ++ drop (s + k) t) ≡ take p t
-    front s l g =
-        ap (take p) (append_assoc (take s t) w (drop (s + k) t))
-        ∙ take-append-le p (take s t) (w ++ drop (s + k) t) (omega (arith, length-take s t))
-        ∙ take-take p s t g
-
 -- a row ends before a later one begins
 rows_apart : (k i j : ℕ) → i < j → i * k + k ≤ j * k
 rows_apart k i j l = omega (arith, suc-mul i k, mul-le-mul_right {m = suc i} {n = j} k (omega arith))
@@ -129,16 +114,6 @@ row_with_other k i j w t e d =
             ∙ ap (row k j) (take-append-drop (i * k) t)
         | inr b ↦ row_rest k j (with_row k i w t) t (with_row_beyond k i w t (j * k) e (rows_apart k i j (omega arith)))
       ]
-    ]
-
--- words written into words are words
-pub with_row_fit : (k i : ℕ) (w t : List ℕ) → Words w → Words t → Words (with_row k i w t)
-with_row_fit k i w t u v =
-    elim (compare (length t) (i * k + k)) [
-      | inl l ↦ rw (with_row_outside k i w t l) v
-      | inr l ↦
-          rw (with_row_inside k i w t l)
-          (append_fit (take (i * k) t ++ w) (drop (i * k + k) t) (append_fit (take (i * k) t) w (take_fit (i * k) t v) u) (drop_fit (i * k + k) t v))
     ]
 
 -- ---- a table made of its rows
@@ -200,11 +175,6 @@ table_front k n ws R h v q =
     front_of_rows k n ws R (λ i l.
     words_only k (row k i ws) (R i) (row_whole k i ws (omega (arith, rows_apart k i n l))) (row_fit k i ws v) (λ f. q i f l))
 
--- a table of n rows that stand for those sets is their table
-pub table_only : (k n : ℕ) (ws : List ℕ) (R : ℕ → Set) → length ws ≡ n * k → Words ws
-    → ((i f : ℕ) → i < n → f < k * 64 → has (row k i ws) f ≡ R i f) → ws ≡ table_of k n R
-table_only k n ws R e v q = sym (take_all (n * k) ws (omega arith)) ∙ table_front k n ws R (omega arith) v q
-
 -- ---- a table whose first n rows are written, and the words that follow them
 
 -- it is one that has those rows and those words
@@ -223,21 +193,12 @@ row_of_written k n R rest e i l =
 pub rest_of_written : (k n : ℕ) (R : ℕ → Set) (rest : List ℕ) {table : List ℕ} → table ≡ table_of k n R ++ rest → drop (n * k) table ≡ rest
 rest_of_written k n R rest e = ap (drop (n * k)) e ∙ drop_at (table_of k n R) rest (n * k) (length_table_of k n R)
 
--- as long as before, where there was room for the rows
-pub length_of_written : (k n : ℕ) (R : ℕ → Set) (first : List ℕ) {table : List ℕ} → n * k ≤ length first
-    → table ≡ table_of k n R ++ drop (n * k) first → length table ≡ length first
-length_of_written k n R first h e =
-    ap length e ∙ length-append (table_of k n R) (drop (n * k) first) ∙ omega (arith, length_table_of k n R, length-drop (n * k) first)
-
 -- ---- the loop that writes a row over the words of start from at on, word by word: the first i are written
 
 pub record Overwritten (words start table : List ℕ) (at i : ℕ) : Type 0 where
   pub most : i ≤ length words
   pub long : length table ≡ length start
   pub part : table ≡ paste start at words i
-
-pub overwrite_start : (words start : List ℕ) (at : ℕ) → Overwritten words start start at 0
-overwrite_start words start at = record { most = omega arith; long = refl; part = paste-zero start at words }
 
 pub overwrite_next : (words start table : List ℕ) (at i : ℕ) → length words ≤ length start - at → i < length words → Overwritten words start table at i
     → Overwritten words start (set table (at + i) (get_or words i 0)) at (i + 1)
@@ -261,20 +222,16 @@ begins number k n at e h =
     ]
 
 module _ (words start : List ℕ) (number at : ℕ) (e : at ≡ min (number * length words) (length start)) where
-  -- the row lies within the table, and all its words are written
-  pub overwrite_end : (table : List ℕ) (i : ℕ) → length words ≤ length start - at → length words ≤ i → Overwritten words start table at i
-      → table ≡ with_row (length words) number words start
-  overwrite_end table i h l v =
+  -- the row lies within the table: the words are copied there, from at on
+  pub row_written : (n : ℕ) {copied : List ℕ} → n ≡ length words → copied ≡ words → length words ≤ length start - at
+      → take at start ++ (copied ++ drop n (drop at start)) ≡ with_row (length words) number words start
+  row_written n size copy h =
       let d : at ≡ number * length words = begins number (length words) (length start) at e h in
-      let g : i ≡ length words = omega (arith, v.most) in
-      v.part
-      ∙ ap₂ (λ (a n : ℕ). take a start ++ take i words ++ drop (a + n) start) d g
-      ∙ ap (λ (w : List ℕ). take (number * length words) start ++ w ++ drop (number * length words + length words) start) (take_all i words l)
+      ap₂ (λ (w r : List ℕ). take at start ++ (w ++ r)) copy (ap (λ (n : ℕ). drop n (drop at start)) size ∙ drop-drop (length words) at start)
+      ∙ sym (append_assoc (take at start) words (drop (at + length words) start))
+      ∙ ap (λ (a : ℕ). take a start ++ words ++ drop (a + length words) start) d
       ∙ sym (with_row_inside (length words) number words start (omega arith))
 
   -- the row does not lie within the table
   pub no_such_row : length start - at < length words → start ≡ with_row (length words) number words start
   no_such_row h = sym (with_row_outside (length words) number words start (omega arith))
-
--- what the needs of that loop are found from
-pub ruleset rows = (rules, overwrite_start, overwrite_next, overwrite_end, no_such_row)

@@ -6,9 +6,10 @@ use mathlib.Core.Logic.{◌⊎◌, inl, inr}
 use native.Mathlib.Nat.{not-suc-le-zero, le_of_suc-le-suc, eq-or-lt_of_le}
 use native.Mathlib.Numerals.{add-one}
 use native.Mathlib.Omega.{arith}
+use Rattle.std.specs.Prelude.{Some, None}
 use Rattle.sets.specs.Tests.{Is, no, both, either, implies, below, same, pick}
-use Rattle.sets.specs.Sets.{Set, added, dropped, removed, all, any, within, one, count, lowest}
-use Rattle.sets.proofs.Tests.{not_is, tell, fails, not_both_ways, equal_tests, both_l, both_r, both_true, either_l, either_r, either_cases, no_true, no_false, implies_true, implies_at, below_at, below_not, same_true, same_at, same_false, compare, pick_true, pick_false}
+use Rattle.sets.specs.Sets.{Set, added, dropped, removed, all, any, within, one, count, lowest, lowest_if_any}
+use Rattle.sets.proofs.Tests.{not_is, tell, fails, not_both_ways, equal_tests, both_l, both_r, both_true, either_l, either_r, either_cases, no_true, no_false, implies_true, implies_at, below_at, below_not, below_true, below_false, same_true, same_at, same_false, compare, pick_true, pick_false}
 
 -- a number below n + 1 is n or is below n
 pub last : (n i : ℕ) → i < suc n → (i ≡ n) ⊎ (i < n)
@@ -248,3 +249,36 @@ lowest_only n X r w = go (lowest n X) (lowest_is n X) (compare r (lowest n X)) (
     go s v (inl a) y = not_both_ways (w.member (omega (arith, v.most))) (v.least r a)
     go s v (inr a) (inl b) = not_both_ways (v.member (omega (arith, w.most))) (w.least s b)
     go s v (inr a) (inr b) = omega arith
+
+-- ---- the lowest member, if there is one
+
+pub some_lowest : (n : ℕ) (X : Set) (r : ℕ) → Lowest n X r → r < n → Some r ≡ lowest_if_any n X
+unfolding lowest_if_any
+some_lowest n X r w l =
+    let e = lowest_only n X r w in
+    ap (λ (s : ℕ). Some s) e ∙ sym (pick_true (Some (lowest n X)) None (below_true (lowest n X) n (omega arith)))
+
+pub no_lowest : (n : ℕ) (X : Set) → ((f : ℕ) → f < n → X f ≡ false) → None ≡ lowest_if_any n X
+unfolding lowest_if_any
+no_lowest n X h = sym (pick_false (Some (lowest n X)) None (below_false (lowest n X) n (go (compare (lowest n X) n))))
+  where
+    go : (lowest n X < n) ⊎ (n ≤ lowest n X) → n ≤ lowest n X
+    go (inl l) = not_both_ways ((lowest_is n X).member l) (h (lowest n X) l)
+    go (inr g) = g
+
+-- what an answer says: the lowest member below n, or that there is none
+pub lowest_some : (n : ℕ) (X : Set) (r : ℕ) → Some r ≡ lowest_if_any n X → (r ≡ lowest n X) × (r < n)
+unfolding lowest_if_any
+lowest_some n X r e = go (tell (below (lowest n X) n))
+  where
+    go : Is (below (lowest n X) n) ⊎ (below (lowest n X) n ≡ false) → (r ≡ lowest n X) × (r < n)
+    go (inl b) = let q : Some r ≡ Some (lowest n X) = e ∙ pick_true (Some (lowest n X)) None b in let p : r ≡ lowest n X = cc in (p, omega (arith, p, below_at (lowest n X) n b))
+    go (inr b) = let q : Some r ≡ None = e ∙ pick_false (Some (lowest n X)) None b in absurd cc
+
+pub lowest_none : (n : ℕ) (X : Set) → None ≡ lowest_if_any n X → lowest n X ≡ n
+unfolding lowest_if_any
+lowest_none n X e = go (tell (below (lowest n X) n))
+  where
+    go : Is (below (lowest n X) n) ⊎ (below (lowest n X) n ≡ false) → lowest n X ≡ n
+    go (inl b) = let q : None ≡ Some (lowest n X) = e ∙ pick_true (Some (lowest n X)) None b in absurd cc
+    go (inr b) = omega (arith, below_not (lowest n X) n b, (lowest_is n X).most)

@@ -7,17 +7,22 @@ use mathlib.Core.List.{List, [], ◌∷◌}
 use native.Mathlib.Nat.{zero-mul, mod-eq_of_lt, div-eq_of_lt, add-div_left, add-mod_left}
 use native.Mathlib.Numerals.{add-one}
 use native.Mathlib.Omega.{arith}
+use mir.Syntax.{w64}
+use mir.Val.{Fits}
 use lib.Dec.{lit<}
 use lib.Arith.{digits_div, digits_mod}
 use lib.Count.{ones}
 use lib.ListN.{length, get_or, take, drop, length-take, length-drop, get_or-eq_default}
 use lib.Seq.{take_all, ext_get_or, get_or-take, get_or-drop}
+use Rattle.std.specs.Prelude.{map}
+use Rattle.std.specs.List.{sum, sum_by}
+use Rattle.std.proofs.lemmas.List.Sums.{sum-map, sum_by_more}
 use Rattle.sets.specs.Tests.{Is, both, below}
 use Rattle.sets.specs.Sets.{Set, none, within, count}
 use Rattle.sets.specs.Words.{bit, has, word_of, words_of, row, Words}
 use Rattle.sets.proofs.Tests.{not_is, fails, not_both_ways, both_r, below_true, below_false, below_iff, compare}
 use Rattle.sets.proofs.Sets.{within_same, count_same, count_add}
-use Rattle.sets.proofs.Bits.{bit_of_zero, word_ext, bit_word_of, word_of_lt, ones_count}
+use Rattle.sets.proofs.OneWord.{bit_of_zero, word_ext, bit_word_of, word_of_lt, ones_count}
 
 -- ---- a set's members, word by word
 
@@ -133,8 +138,8 @@ pub within_made_l : (k : ℕ) (a : List ℕ) (X Y : Set) → a ≡ words_of k X 
 within_made_l k a X Y d = within_same (k * 64) (has a) Y X Y (has_made k a X d) (λ f l. refl)
 
 -- words are those of their own members
-pub words_of_has : (ws : List ℕ) → Words ws → words_of (length ws) (has ws) ≡ ws
-words_of_has ws w = sym (words_only (length ws) ws (has ws) refl w (λ f l. refl))
+pub own_words : (k : ℕ) (ws : List ℕ) → length ws ≡ k → ((i : ℕ) → Fits w64 (get_or ws i 0)) → ws ≡ words_of k (has ws)
+own_words k ws e w = words_only k ws (has ws) e (λ i. (w i).fits) (λ f l. refl)
 
 -- ---- the rows of a table
 
@@ -196,3 +201,14 @@ count_words ws i l =
   where
     next : (i + 1) * 64 ≡ i * 64 + 64
     next = omega arith
+
+-- so the members of words are as many as their ones
+pub count_ones : (ws : List ℕ) → ((i : ℕ) → Fits w64 (get_or ws i 0)) → sum (map ones ws) ≡ count (length ws * 64) (has ws)
+unfolding count
+count_ones ws fits = sum-map ones ws ∙ ap (sum_by ones) (sym (take_all (length ws) ws (omega arith))) ∙ first (length ws) (omega arith)
+  where
+    first : (i : ℕ) → i ≤ length ws → sum_by ones (take i ws) ≡ count (i * 64) (has ws)
+    first zero h = refl
+    first (suc i) h =
+        rw (sym (add-one i))
+        (sum_by_more ones ws i 0 h ∙ ap (λ (n : ℕ). n + ones (get_or ws i 0)) (first i (omega arith)) ∙ sym (count_words ws i (fits i).fits))

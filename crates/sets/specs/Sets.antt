@@ -1,6 +1,6 @@
 -- Sets of numbers as document 01 speaks of them: what is a member, which set an operation makes, and the questions asked of a set.
 -- Each question looks at the numbers below a bound, and by recursion on it, so that a loop's invariant is the question at its counter.
-use Rattle.std.specs.Prelude.{ℕ, zero, suc, ◌+◌, Bool, true, false, List, [], ◌∷◌, ◌++◌}
+use Rattle.std.specs.Prelude.{ℕ, zero, suc, ◌+◌, Bool, true, false, Option, Some, None, List, [], ◌∷◌, ◌++◌}
 use Rattle.sets.specs.Tests.{no, both, either, implies, below, same, pick}
 
 -- a set says of each number whether it is a member
@@ -57,6 +57,10 @@ count (suc n) X = count n X + one (X n)
 unfoldable pub lowest : ℕ → Set → ℕ
 lowest zero X = 0
 lowest (suc n) X = let r = lowest n X in pick (below r n) r (pick (X n) n (suc n))
+
+-- the lowest member of X below n, if there is one
+unfoldable pub lowest_if_any : ℕ → Set → Option ℕ
+lowest_if_any n X = let r = lowest n X in pick (below r n) (Some r) None
 
 -- the members of X below n, lowest first
 unfoldable pub members : ℕ → Set → List ℕ

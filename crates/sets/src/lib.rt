@@ -6,9 +6,9 @@
 // specs/Words.antt says which words a set is.
 #![tactic(auto)]
 
-mod facts;
+mod bits;
+mod members;
 mod slices;
-mod steps;
 
-pub use facts::Facts;
-pub use steps::Steps;
+pub use bits::{Bits, Facts, Few, Steps};
+pub use members::Members;

@@ -1,14 +1,14 @@
 // The loops behind the sets, over slices of any number of words. A word past a slice's end counts
 // as 0.
 ghost use Rattle.std.specs.Prelude.{◌≡◌, ◌*◌, ◌≤◌, min, length, get_or};
-ghost use Rattle.sets.specs.Sets.{up_to, joined, met, removed, within, count, lowest};
+ghost use Rattle.sets.specs.Sets.{up_to, joined, met, removed, within, count, lowest_if_any};
 ghost use Rattle.sets.specs.Words.{has, words_of, row, with_row};
 
 // Word i of the slice.
 fn word(words: &[u64], i: usize) -> u64
     ensures { result ≡ get_or words.now i 0 }
 {
-    if i < words.len() { words[i] } else { 0 }
+    words.get(i).copied().unwrap_or(0)
 }
 
 // Where the row of that number starts in a table of so many words, or the table's end if it starts
@@ -16,13 +16,7 @@ fn word(words: &[u64], i: usize) -> u64
 fn row_start(words: usize, number: usize, width: usize) -> usize
     ensures { result ≡ min (number * width) words }
 {
-    if width == 0 {
-        return 0;
-    }
-    if words / width < number {
-        return words;
-    }
-    number * width
+    number.saturating_mul(width).min(words)
 }
 
 // Makes words the numbers below n.
@@ -30,16 +24,9 @@ pub(crate) fn fill_up_to(words: &mut [u64], n: usize)
     ensures { words.new ≡ words_of (length words.old) (up_to n) }
 {
     let mut left = n;
-    let mut i: usize = 0;
-    while i < words.len() {
-        if 64 <= left {
-            words[i] = 18446744073709551615;
-            left -= 64;
-        } else {
-            words[i] = (1u64 << left) - 1;
-            left = 0;
-        }
-        i += 1;
+    for word in words.iter_mut() {
+        *word = if left < 64 { (1 << left) - 1 } else { u64::MAX };
+        left = left.saturating_sub(64);
     }
 }
 
@@ -49,10 +36,8 @@ pub(crate) fn copy_row(table: &[u64], number: usize, words: &mut [u64])
 {
     let start = row_start(table.len(), number, words.len());
     let rest = &table[start..];
-    let mut i: usize = 0;
-    while i < words.len() {
-        words[i] = word(rest, i);
-        i += 1;
+    for (i, copy) in words.iter_mut().enumerate() {
+        *copy = word(rest, i);
     }
 }
 
@@ -61,13 +46,8 @@ pub(crate) fn write_row(words: &[u64], table: &mut [u64], number: usize)
     ensures { table.new ≡ with_row (length words.now) number words.now table.old }
 {
     let start = row_start(table.len(), number, words.len());
-    if table.len() - start < words.len() {
-        return;
-    }
-    let mut i: usize = 0;
-    while i < words.len() {
-        table[start + i] = words[i];
-        i += 1;
+    if words.len() <= table.len() - start {
+        table[start..start + words.len()].copy_from_slice(words);
     }
 }
 
@@ -75,10 +55,8 @@ pub(crate) fn write_row(words: &[u64], table: &mut [u64], number: usize)
 pub(crate) fn join_into(words: &mut [u64], others: &[u64])
     ensures { words.new ≡ words_of (length words.old) (joined (has words.old) (has others.now)) }
 {
-    let mut i: usize = 0;
-    while i < words.len() {
-        words[i] = words[i] | word(others, i);
-        i += 1;
+    for (i, joined) in words.iter_mut().enumerate() {
+        *joined |= word(others, i);
     }
 }
 
@@ -86,10 +64,8 @@ pub(crate) fn join_into(words: &mut [u64], others: &[u64])
 pub(crate) fn meet_into(words: &mut [u64], others: &[u64])
     ensures { words.new ≡ words_of (length words.old) (met (has words.old) (has others.now)) }
 {
-    let mut i: usize = 0;
-    while i < words.len() {
-        words[i] = words[i] & word(others, i);
-        i += 1;
+    for (i, met) in words.iter_mut().enumerate() {
+        *met &= word(others, i);
     }
 }
 
@@ -97,10 +73,8 @@ pub(crate) fn meet_into(words: &mut [u64], others: &[u64])
 pub(crate) fn remove_from(words: &mut [u64], others: &[u64])
     ensures { words.new ≡ words_of (length words.old) (removed (has words.old) (has others.now)) }
 {
-    let mut i: usize = 0;
-    while i < words.len() {
-        words[i] = words[i] & !word(others, i);
-        i += 1;
+    for (i, rest) in words.iter_mut().enumerate() {
+        *rest &= !word(others, i);
     }
 }
 
@@ -108,14 +82,11 @@ pub(crate) fn remove_from(words: &mut [u64], others: &[u64])
 pub(crate) fn all_within(words: &[u64], others: &[u64]) -> bool
     ensures { result ≡ within (length words.now * 64) (has words.now) (has others.now) }
 {
-    let mut i: usize = 0;
-    while i < words.len() {
-        if words[i] & !word(others, i) != 0 {
-            return false;
-        }
-        i += 1;
+    let mut within = true;
+    for (i, own) in words.iter().enumerate() {
+        within &= own & !word(others, i) == 0;
     }
-    true
+    within
 }
 
 // How many members there are, of so few words that the number fits.
@@ -123,27 +94,18 @@ pub(crate) fn count_members(words: &[u64]) -> u32
     requires { length words.now ≤ 16 }
     ensures { result ≡ count (length words.now * 64) (has words.now) }
 {
-    let mut n: u32 = 0;
-    let mut i: usize = 0;
-    while i < words.len() {
-        n += u64::count_ones(words[i]);
-        i += 1;
-    }
-    n
+    words.iter().map(|word| word.count_ones()).sum()
 }
 
-// The lowest member, or one past the last bit where there is none, of so few words that it fits.
-pub(crate) fn lowest_member(words: &[u64]) -> usize
+// The lowest member, if there is one, of so few words that it fits.
+pub(crate) fn lowest_member(words: &[u64]) -> Option<usize>
     requires { length words.now ≤ 16 }
-    ensures { result ≡ lowest (length words.now * 64) (has words.now) }
+    ensures { result ≡ lowest_if_any (length words.now * 64) (has words.now) }
 {
-    let mut i: usize = 0;
-    while i < words.len() {
-        let w = words[i];
-        if w != 0 {
-            return i * 64 + u64::trailing_zeros(w) as usize;
+    for (i, word) in words.iter().enumerate() {
+        if *word != 0 {
+            return Some(i * 64 + word.trailing_zeros() as usize);
         }
-        i += 1;
     }
-    i * 64
+    None
 }

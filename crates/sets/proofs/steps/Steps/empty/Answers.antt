@@ -1,5 +1,0 @@
-use Rattle.sets.proofs.Methods.{words}
-use Rattle.sets.proofs.steps.Steps.empty.Goals as goal
-
-pub returns : goal.returns
-returns c = search words
