@@ -5,25 +5,29 @@ use mathlib.Core.Bool.{Bool, true, false, not}
 use mathlib.Core.List.{List, [], ◌∷◌}
 use mathlib.Core.Logic.{inl, inr}
 use native.Mathlib.Omega.{arith}
-use lib.Dec.{eqb}
+use Rattle.std.proofs.lemmas.Bool.{le-leb, leb-true}
+use Rattle.std.proofs.lemmas.Grind.{get_or_default_zero}
+use Rattle.std.proofs.lemmas.List.Sums.{AllPass-from_list_all, list_all-from_AllPass}
 use lib.ListN.{length, get_or, get_or-eq_default}
-use borrow.Author.Rules.{rules}
 use borrow.Author.Tests.{not-true, not-false}
-use Rattle.sets.specs.Tests.{Is, no, both, below}
+use Rattle.sets.specs.Tests.{Is, no, below, both}
 use Rattle.sets.specs.Sets.{all, within, up_to}
 use Rattle.sets.specs.Words.{has, words_of, row}
-use Rattle.sets.proofs.Tests.{no_true, no_false, no_of, both_l, both_r, both_false_l, both_false_r, below_true, below_false, below_at, below_not, same_is, same_true, same_false, same_at, compare}
-use Rattle.sets.proofs.Sets.{all_at, all_fails, all_next, within_at}
+use Rattle.sets.proofs.Tests.{no_true, no_false, equal_tests, both_l, both_r, below_false, below_at, below_not, same_at, compare, no_of, both_false_l, both_false_r, below_true, same_is, same_true, same_false}
+use Rattle.sets.proofs.Sets.{all_true, all_at, all_fails, all_next, within_at}
 use Rattle.sets.proofs.Words.{has_lt, has_row, row_lt, within_made}
-use Rattle.task.specs.declared.verdict.Verdict.{Verdict}
-use Rattle.task.specs.declared.verdict.Verdict.TheVariants.{Fine, Refused}
-use Rattle.task.specs.Tables.{Tables, view}
-use Rattle.task.specs.Verdict.{refused_if, first_refusal}
-use Rattle.task.specs.Check.{right_lengths, only_facts, right_sets, right_costs, sizes_verdict, verdict_of}
-use Rattle.task.proofs.Refusals.{refuse, skip, none_left, skip_fine, stay, fine_first, fine_rest, fine_test}
-use Rattle.task.proofs.Sizes.{sized}
+use Rattle.std.specs.Prelude.{Ok, Err}
+use Rattle.task.specs.declared.refusal.Fault.TheVariants.{TableLength, FactNumber, StepCost}
+use Rattle.task.specs.Tables.{Tables}
+use Rattle.task.specs.Checked.{Checked}
+use Rattle.task.specs.Check.{right_lengths, only_facts, right_sets, right_costs, verdict_of, sizes_verdict}
+use Rattle.task.proofs.Refusals.{fine_first, fine_rest, fine_test, refuse, skip, none_left, skip_fine, stay}
+use Rattle.task.proofs.Sizing.{sized}
+use lib.Dec.{eqb}
+use Rattle.task.specs.Refusal.{refused_if, first_refusal, Verdict, refusal}
+use Rattle.task.specs.declared.refusal.Refusal.{Refusal}
 
--- ---- the tests behind it: each answer of `right_lengths`, `only_facts`, `right_sets` and `right_costs`
+-- ---- the tests of checking: lengths, the row that is looked at in the loop of `only_facts`, and the costs by a chain
 
 module _ (m needs sets clears costs start goal : ℕ) where
   pub lengths_needs : ¬ (needs ≡ 4 * m) → false ≡ right_lengths m needs sets clears costs start goal
@@ -50,7 +54,6 @@ module _ (m needs sets clears costs start goal : ℕ) where
   unfolding right_lengths both
   lengths_goal a b c d e = sym (simp (same_true _ _ a, same_true _ _ b, same_true _ _ c, same_true _ _ d, same_true _ _ e) (same_is goal 4))
 
--- a turn of the loop of `only_facts`: the row i that was read, tested against all facts below n
 module _ (n : ℕ) (table : List ℕ) where
   abbrev pub row_fits : ℕ → Bool
   row_fits i = within 256 (has (row 4 i table)) (up_to n)
@@ -71,46 +74,24 @@ module _ (n : ℕ) (table : List ℕ) where
   unfolding only_facts
   facts_end i l k h = let e : i ≡ length table / 4 = omega arith in sym (rw e at h)
 
-module _ (n : ℕ) (needs sets clears start goal : List ℕ) {p : Bool} where
-  pub sets_needs : p ≡ only_facts n needs → not p ≡ true → false ≡ right_sets n needs sets clears start goal
-  unfolding right_sets
-  sets_needs e h = sym (both_false_l _ _ (sym e ∙ not-true p h))
+-- the chain over the costs, cost by cost
+pub costs_all : (costs : List ℕ) → right_costs costs ≡ all (length costs) (λ s. no (below 65535 (get_or costs s 0)))
+unfolding right_costs
+costs_all costs =
+    equal_tests _ _
+    (λ h. all_true (length costs) _ (λ s l. no_true _ (below_false _ _ (leb-true _ _ (AllPass-from_list_all _ costs h s 0 l)))))
+    (λ h. list_all-from_AllPass _ costs (λ s d l. le-leb _ _ (rw (get_or_default_zero costs s d l) (below_not _ _ (no_false _ (all_at (length costs) _ h s l))))))
 
-  pub sets_sets : p ≡ only_facts n sets → not p ≡ true → false ≡ right_sets n needs sets clears start goal
-  unfolding right_sets
-  sets_sets e h = sym (both_false_r _ _ (both_false_l _ _ (sym e ∙ not-true p h)))
-
-  pub sets_clears : p ≡ only_facts n clears → not p ≡ true → false ≡ right_sets n needs sets clears start goal
-  unfolding right_sets
-  sets_clears e h = sym (both_false_r _ _ (both_false_r _ _ (both_false_l _ _ (sym e ∙ not-true p h))))
-
-  pub sets_start : p ≡ only_facts n start → not p ≡ true → false ≡ right_sets n needs sets clears start goal
-  unfolding right_sets
-  sets_start e h = sym (both_false_r _ _ (both_false_r _ _ (both_false_r _ _ (both_false_l _ _ (sym e ∙ not-true p h)))))
-
-  pub sets_goal : {a b c d : Bool} → a ≡ only_facts n needs → b ≡ only_facts n sets → c ≡ only_facts n clears → d ≡ only_facts n start → p ≡ only_facts n goal
-      → not a ≡ false → not b ≡ false → not c ≡ false → not d ≡ false → p ≡ right_sets n needs sets clears start goal
-  unfolding right_sets both
-  sets_goal {a} {b} {c} {d} ea eb ec ed ep ha hb hc hd =
-      ep ∙ sym (simp (sym ea, sym eb, sym ec, sym ed, not-false a ha, not-false b hb, not-false c hc, not-false d hd))
-
-pub ruleset set_tests = (rules, lengths_needs, lengths_sets, lengths_clears, lengths_costs, lengths_start, lengths_goal, sets_needs, sets_sets, sets_clears, sets_start, sets_goal)
-
--- a turn of the loop of `right_costs`
+-- a cost that is too high, and costs that are looked at one after the other
 module _ (costs : List ℕ) where
   abbrev pub cost_fits : ℕ → Bool
   cost_fits s = no (below 65535 (get_or costs s 0))
 
   pub costs_stop : (s : ℕ) → s < length costs → 65535 < get_or costs s 0 → false ≡ right_costs costs
-  unfolding right_costs
-  costs_stop s l h = sym (all_fails _ _ s l (no_of _ (below_true _ _ h)))
-
-  pub costs_next : (s : ℕ) → Is (all s cost_fits) → get_or costs s 0 ≤ 65535 → Is (all (s + 1) cost_fits)
-  costs_next s before h = all_next s cost_fits before (no_true _ (below_false _ _ h))
+  costs_stop s l h = sym (costs_all costs ∙ all_fails _ _ s l (no_of _ (below_true _ _ h)))
 
   pub costs_end : (s : ℕ) → s ≤ length costs → length costs ≤ s → Is (all s cost_fits) → true ≡ right_costs costs
-  unfolding right_costs
-  costs_end s l k h = let e : s ≡ length costs = omega arith in sym (rw e at h)
+  costs_end s l k h = let e : s ≡ length costs = omega arith in sym (costs_all costs ∙ rw e at h)
 
 -- ---- each answer of `check`
 
@@ -122,54 +103,34 @@ abbrev sets_of : Tables → Bool
 sets_of t = right_sets t.facts t.needs t.sets t.clears t.start t.goal
 
 module _ (t : Tables) {v : Verdict} (sizes : v ≡ sizes_verdict t.facts t.steps) where
-  pub check_sizes : (k p : ℕ) → v ≡ Refused k p → v ≡ verdict_of t
+  pub check_sizes : (r : Refusal) → v ≡ Err r → v ≡ verdict_of t
   unfolding verdict_of
-  check_sizes k p e = sizes ∙ sym (stay _ (sym sizes ∙ e))
+  check_sizes r e = sizes ∙ sym (stay _ (sym sizes ∙ e))
 
-  module _ (fine : v ≡ Fine) {a : Bool} (lengths : a ≡ lengths_of t) where
-    pub check_lengths : not a ≡ true → Refused 3 0 ≡ verdict_of t
+  module _ (fine : v ≡ Ok tt) {a : Bool} (lengths : a ≡ lengths_of t) where
+    pub check_lengths : not a ≡ true → Err (refusal TableLength 0) ≡ verdict_of t
     unfolding verdict_of
-    check_lengths h = sym (skip_fine _ (sym sizes ∙ fine) ∙ refuse 3 _ (no_true _ (sym lengths ∙ not-true a h)))
+    check_lengths h = sym (skip_fine _ (sym sizes ∙ fine) ∙ refuse TableLength _ (no_true _ (sym lengths ∙ not-true a h)))
 
     module _ (long : not a ≡ false) {b : Bool} (in_range : b ≡ sets_of t) where
-      lengths_pass : verdict_of t ≡ first_refusal (refused_if (no (sets_of t)) 4 ∷ refused_if (no (right_costs t.costs)) 5 ∷ [])
+      lengths_pass : verdict_of t ≡ first_refusal (refused_if (no (sets_of t)) FactNumber ∷ refused_if (no (right_costs t.costs)) StepCost ∷ [])
       unfolding verdict_of
-      lengths_pass = skip_fine _ (sym sizes ∙ fine) ∙ skip 3 _ (no_of _ (sym lengths ∙ not-false a long))
+      lengths_pass = skip_fine _ (sym sizes ∙ fine) ∙ skip TableLength _ (no_of _ (sym lengths ∙ not-false a long))
 
-      pub check_sets : not b ≡ true → Refused 4 0 ≡ verdict_of t
-      check_sets h = sym (lengths_pass ∙ refuse 4 _ (no_true _ (sym in_range ∙ not-true b h)))
+      pub check_sets : not b ≡ true → Err (refusal FactNumber 0) ≡ verdict_of t
+      check_sets h = sym (lengths_pass ∙ refuse FactNumber _ (no_true _ (sym in_range ∙ not-true b h)))
 
       module _ (right : not b ≡ false) {d : Bool} (cheap : d ≡ right_costs t.costs) where
-        sets_pass : verdict_of t ≡ first_refusal (refused_if (no (right_costs t.costs)) 5 ∷ [])
-        sets_pass = lengths_pass ∙ skip 4 _ (no_of _ (sym in_range ∙ not-false b right))
+        sets_pass : verdict_of t ≡ first_refusal (refused_if (no (right_costs t.costs)) StepCost ∷ [])
+        sets_pass = lengths_pass ∙ skip FactNumber _ (no_of _ (sym in_range ∙ not-false b right))
 
-        pub check_costs : not d ≡ true → Refused 5 0 ≡ verdict_of t
-        check_costs h = sym (sets_pass ∙ refuse 5 _ (no_true _ (sym cheap ∙ not-true d h)))
+        pub check_costs : not d ≡ true → Err (refusal StepCost 0) ≡ verdict_of t
+        check_costs h = sym (sets_pass ∙ refuse StepCost _ (no_true _ (sym cheap ∙ not-true d h)))
 
-        pub check_fine : not d ≡ false → Fine ≡ verdict_of t
-        check_fine h = sym (sets_pass ∙ skip 5 [] (no_of _ (sym cheap ∙ not-false d h)) ∙ none_left)
-
-pub ruleset checking = (rules, check_sizes, check_lengths, check_sets, check_costs, check_fine)
+        pub check_fine : not d ≡ false → Ok tt ≡ verdict_of t
+        check_fine h = sym (sets_pass ∙ skip StepCost [] (no_of _ (sym cheap ∙ not-false d h)) ∙ none_left)
 
 -- ---- what is known where nothing is wrong
-
-pub record Checked (t : Tables) : Type 0 where
-  pub some_facts : 0 < t.facts
-  pub few_facts : t.facts ≤ 256
-  pub few_steps : t.steps ≤ 1024
-  pub needs_length : length t.needs ≡ 4 * t.steps
-  pub sets_length : length t.sets ≡ 4 * t.steps
-  pub clears_length : length t.clears ≡ 4 * t.steps
-  pub costs_length : length t.costs ≡ t.steps
-  pub start_length : length t.start ≡ 4
-  pub goal_length : length t.goal ≡ 4
-  -- no set holds a fact past the last
-  pub needs_facts : (s f : ℕ) → Is ((view t).needs s f) → f < t.facts
-  pub sets_facts : (s f : ℕ) → Is ((view t).sets s f) → f < t.facts
-  pub clears_facts : (s f : ℕ) → Is ((view t).clears s f) → f < t.facts
-  pub start_facts : (f : ℕ) → Is ((view t).start f) → f < t.facts
-  pub goal_facts : (f : ℕ) → Is ((view t).goal f) → f < t.facts
-  pub costs_most : (s : ℕ) → (view t).cost s ≤ 65535
 
 -- a row of a table of whole rows that holds only facts below n
 only_row : (n m : ℕ) (table : List ℕ) → length table ≡ 4 * m → Is (only_facts n table) → (i f : ℕ) → Is (has (row 4 i table) f) → f < n
@@ -187,18 +148,18 @@ only_set n words e h f r =
     let first : 0 * 4 * 64 + f ≡ f = omega arith in
     only_row n 1 words e h 0 f (has_row 4 0 words f short ∙ ap (has words) first ∙ r)
 
-pub checked : (t : Tables) → verdict_of t ≡ Fine → Checked t
-unfolding verdict_of right_lengths right_sets right_costs
+pub checked : (t : Tables) → verdict_of t ≡ Ok tt → Checked t
+unfolding verdict_of right_lengths right_sets
 checked t e =
     let sizes = sized t.facts t.steps (fine_first _ _ e) in
     let after_sizes = fine_rest _ _ e in
     let after_lengths = fine_rest _ _ after_sizes in
-    let long = fine_test _ 3 (fine_first _ _ after_sizes) in
+    let long = fine_test _ TableLength (fine_first _ _ after_sizes) in
     let long_2 = both_r _ _ long in
     let long_3 = both_r _ _ long_2 in
     let long_4 = both_r _ _ long_3 in
     let long_5 = both_r _ _ long_4 in
-    let facts = fine_test _ 4 (fine_first _ _ after_lengths) in
+    let facts = fine_test _ FactNumber (fine_first _ _ after_lengths) in
     let facts_2 = both_r _ _ facts in
     let facts_3 = both_r _ _ facts_2 in
     let facts_4 = both_r _ _ facts_3 in
@@ -208,6 +169,7 @@ checked t e =
     let start_long = same_at _ _ (both_l _ _ long_5) in
     let goal_long = same_at _ _ (both_r _ _ long_5) in
     record {
+      fine = e;
       some_facts = sizes.some;
       few_facts = sizes.few;
       few_steps = sizes.short;
@@ -222,7 +184,7 @@ checked t e =
       clears_facts = only_row t.facts t.steps t.clears clears_long (both_l _ _ facts_3);
       start_facts = only_set t.facts t.start start_long (both_l _ _ facts_4);
       goal_facts = only_set t.facts t.goal goal_long (both_r _ _ facts_4);
-      costs_most = cheap (fine_test _ 5 (fine_first _ _ (fine_rest _ _ after_lengths)));
+      costs_most = cheap (sym (costs_all t.costs) ∙ fine_test _ StepCost (fine_first _ _ (fine_rest _ _ after_lengths)));
     }
   where
     cheap : Is (all (length t.costs) (λ s. no (below 65535 (get_or t.costs s 0)))) → (s : ℕ) → get_or t.costs s 0 ≤ 65535

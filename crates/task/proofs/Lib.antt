@@ -1,7 +1,7 @@
 pub mod Refusals
-pub mod Sizes
+pub mod Sizing
 pub mod Checking
 pub mod HandingOut
 pub mod Walks
-pub mod Tables
+pub mod RowsRead
 pub mod Examples

@@ -1,12 +1,13 @@
 -- When refusals 1 to 5 are given, as document 01's table has it, and the verdict of checking, through which every operation on a task goes.
-use Rattle.std.specs.Prelude.{ℕ, ◌*◌, ◌/◌, Bool, List, [], ◌∷◌, length, get_or}
+use Rattle.std.specs.Prelude.{ℕ, ◌*◌, ◌/◌, Bool, List, [], ◌∷◌, length, nat_le}
+use Rattle.std.specs.List.{list_all}
 use Rattle.sets.specs.Tests.{no, both, either, below, same}
 use Rattle.sets.specs.Sets.{all, within, up_to}
 use Rattle.sets.specs.Words.{has, row}
-use Rattle.task.specs.declared.verdict.Verdict.{Verdict}
+use Rattle.task.specs.declared.refusal.Fault.TheVariants.{FactCount, StepCount, TableLength, FactNumber, StepCost}
 use Rattle.task.specs.Limits.{limits}
 use Rattle.task.specs.Tables.{Tables}
-use Rattle.task.specs.Verdict.{refused_if, first_refusal}
+use Rattle.task.specs.Refusal.{Verdict, refused_if, first_refusal}
 
 -- 1: n is 0 or above 256
 unfoldable pub wrong_facts : ℕ → Bool
@@ -32,16 +33,16 @@ right_sets n needs sets clears start goal =
 
 -- 5: a cost is above 65,535
 unfoldable pub right_costs : List ℕ → Bool
-right_costs costs = all (length costs) (λ s. no (below limits.cost (get_or costs s 0)))
+right_costs costs = list_all (λ cost. nat_le cost limits.cost) costs
 
 unfoldable pub sizes_verdict : ℕ → ℕ → Verdict
-sizes_verdict n m = first_refusal (refused_if (wrong_facts n) 1 ∷ refused_if (wrong_steps m) 2 ∷ [])
+sizes_verdict n m = first_refusal (refused_if (wrong_facts n) FactCount ∷ refused_if (wrong_steps m) StepCount ∷ [])
 
 unfoldable pub verdict_of : Tables → Verdict
 verdict_of t =
     first_refusal
     (sizes_verdict t.facts t.steps
-    ∷ refused_if (no (right_lengths t.steps (length t.needs) (length t.sets) (length t.clears) (length t.costs) (length t.start) (length t.goal))) 3
-    ∷ refused_if (no (right_sets t.facts t.needs t.sets t.clears t.start t.goal)) 4
-    ∷ refused_if (no (right_costs t.costs)) 5
+    ∷ refused_if (no (right_lengths t.steps (length t.needs) (length t.sets) (length t.clears) (length t.costs) (length t.start) (length t.goal))) TableLength
+    ∷ refused_if (no (right_sets t.facts t.needs t.sets t.clears t.start t.goal)) FactNumber
+    ∷ refused_if (no (right_costs t.costs)) StepCost
     ∷ [])

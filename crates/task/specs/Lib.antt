@@ -2,7 +2,9 @@ pub mod Limits
 pub mod Task
 pub mod Walks
 pub mod Tables
-pub mod Verdict
+pub mod Refusal
 pub mod Check
+pub mod Checked
+pub mod Lent
 pub mod Row
 pub mod Rows

@@ -4,6 +4,7 @@ use Rattle.sets.specs.Tests.{Is, no}
 use Rattle.sets.specs.Sets.{Set, none}
 use Rattle.sets.specs.Words.{has, row}
 use Rattle.task.specs.Task.{Task}
+use Rattle.task.specs.Tables.{Tables}
 
 -- rows of needs and sets, the steps that are off, and what holds at first: all that reach, must rows and distances look at
 abbrev pub rows_task : ℕ → ℕ → List ℕ → List ℕ → Set → Set → Task
@@ -18,6 +19,10 @@ rows_task facts steps needs sets off start = record {
   goal = none;
   on = λ s. no (off s);
 }
+
+-- the same of a task as it is lent, without the steps that are off
+abbrev pub rows_without : Tables → Set → Task
+rows_without t off = rows_task t.facts t.steps t.needs t.sets off (has t.start)
 
 -- the rows of the table hold only facts below n
 abbrev pub RowsBelow : ℕ → List ℕ → Type 0

@@ -1,106 +1,51 @@
 // Checking a task: refusals 1 to 5, lowest first, of tables of any lengths.
-ghost use Rattle.std.specs.Prelude.{◌≡◌, ◌≤◌};
-ghost use Rattle.task.specs.Tables.{tables};
+ghost use Rattle.std.specs.Prelude.{◌≡◌, ◌≤◌, length};
+ghost use Rattle.task.specs.Lent.{lent};
 ghost use Rattle.task.specs.Check.{right_lengths, only_facts, right_sets, right_costs, verdict_of};
 
+use crate::refusal::{Fault, Refusal};
+use crate::tables::Tables;
 use crate::task::Task;
-use crate::verdict::Verdict;
 use sets::Facts;
 
-// What is wrong with a task's sizes and tables, if anything: every other operation on a task starts
-// from this answer.
-pub fn check(
-    task: Task,
-    needs: &[u64],
-    sets: &[u64],
-    clears: &[u64],
-    costs: &[u32],
-    start: &[u64],
-    goal: &[u64],
-) -> Verdict
-    ensures { result ≡ verdict_of (tables task.facts task.steps needs.now sets.now clears.now costs.now start.now goal.now) }
+/// What is wrong with a task's sizes and tables, if anything: every other operation on a task starts
+/// from this answer.
+#[tactic(auto, unfolding(crate::specs::Check::verdict_of, crate::specs::Refusal::first_refusal, crate::specs::Refusal::or_else, crate::specs::Refusal::refused_if, sets::specs::Tests::no))]
+pub fn check(tables: Tables<'_>) -> Result<(), Refusal>
+    ensures { result ≡ verdict_of (lent tables.entry) }
 {
-    let sizes = task.check_sizes();
-    let Verdict::Fine = sizes else {
-        return sizes;
-    };
-    let m = task.steps;
-    if !right_lengths(
-        m,
-        needs.len(),
-        sets.len(),
-        clears.len(),
-        costs.len(),
-        start.len(),
-        goal.len(),
-    ) {
-        return Verdict::Refused(3, 0);
-    }
-    let n = task.facts;
-    if !right_sets(n, needs, sets, clears, start, goal) {
-        return Verdict::Refused(4, 0);
-    }
-    if !right_costs(costs) {
-        return Verdict::Refused(5, 0);
-    }
-    Verdict::Fine
+    tables.sizes.check()?;
+    Fault::TableLength.unless(right_lengths(tables))?;
+    Fault::FactNumber.unless(right_sets(tables))?;
+    Fault::StepCost.unless(right_costs(tables.costs))
 }
 
-// Whether the tables of a task of m steps have these lengths.
-fn right_lengths(
-    m: usize,
-    needs: usize,
-    sets: usize,
-    clears: usize,
-    costs: usize,
-    start: usize,
-    goal: usize,
-) -> bool
-    requires { m ≤ 1024 }
-    ensures { result ≡ right_lengths m needs sets clears costs start goal }
+// Whether the tables are as long as the sizes say.
+#[tactic(auto, unfolding(crate::specs::Check::right_lengths, sets::specs::Tests::both, sets::specs::Tests::same))]
+fn right_lengths(tables: Tables<'_>) -> bool
+    requires { tables.sizes.steps ≤ 1024 }
+    ensures { result ≡ right_lengths tables.entry.sizes.steps (length tables.entry.needs.now) (length tables.entry.sets.now) (length tables.entry.clears.now) (length tables.entry.costs.now) (length tables.entry.start.now) (length tables.entry.goal.now) }
 {
-    if needs != 4 * m {
-        return false;
-    }
-    if sets != 4 * m {
-        return false;
-    }
-    if clears != 4 * m {
-        return false;
-    }
-    if costs != m {
-        return false;
-    }
-    if start != 4 {
-        return false;
-    }
-    goal == 4
+    let words = Facts::WORDS * tables.sizes.steps;
+    tables.needs.len() == words
+        && tables.sets.len() == words
+        && tables.clears.len() == words
+        && tables.costs.len() == tables.sizes.steps
+        && tables.start.len() == Facts::WORDS
+        && tables.goal.len() == Facts::WORDS
 }
 
-// Whether no set of a task holds a fact numbered n or more.
-fn right_sets(
-    n: usize,
-    needs: &[u64],
-    sets: &[u64],
-    clears: &[u64],
-    start: &[u64],
-    goal: &[u64],
-) -> bool
-    ensures { result ≡ right_sets n needs.now sets.now clears.now start.now goal.now }
+// Whether no set of the tables holds a fact that the task does not have.
+#[tactic(auto, unfolding(crate::specs::Check::right_sets, sets::specs::Tests::both))]
+fn right_sets(tables: Tables<'_>) -> bool
+    ensures { result ≡ right_sets tables.entry.sizes.facts tables.entry.needs.now tables.entry.sets.now tables.entry.clears.now tables.entry.start.now tables.entry.goal.now }
 {
-    if !only_facts(n, needs) {
-        return false;
-    }
-    if !only_facts(n, sets) {
-        return false;
-    }
-    if !only_facts(n, clears) {
-        return false;
-    }
-    if !only_facts(n, start) {
-        return false;
-    }
-    only_facts(n, goal)
+    let facts = tables.sizes.facts;
+    only_facts(facts, tables.needs)
+        && only_facts(facts, tables.sets)
+        && only_facts(facts, tables.clears)
+        && only_facts(facts, tables.start)
+        && only_facts(facts, tables.goal)
 }
 
 // Whether no row of a table of sets of facts holds a fact numbered n or more.
@@ -108,27 +53,18 @@ fn only_facts(n: usize, table: &[u64]) -> bool
     ensures { result ≡ only_facts n table.now }
 {
     let facts = Facts::up_to(n);
-    let rows = table.len() / Facts::WORDS;
-    let mut i: usize = 0;
-    while i < rows {
-        if !Facts::row(table, i).within(facts) {
+    for number in 0..table.len() / Facts::WORDS {
+        if !Facts::row(table, number).within(facts) {
             return false;
         }
-        i += 1;
     }
     true
 }
 
 // Whether no cost is above the largest.
+#[tactic(auto, unfolding(crate::specs::Check::right_costs))]
 fn right_costs(costs: &[u32]) -> bool
     ensures { result ≡ right_costs costs.now }
 {
-    let mut s: usize = 0;
-    while s < costs.len() {
-        if Task::COST < costs[s] {
-            return false;
-        }
-        s += 1;
-    }
-    true
+    costs.iter().all(|&cost| cost <= Task::COST)
 }

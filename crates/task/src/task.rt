@@ -1,19 +1,19 @@
-// A task's sizes, and the limits within which every task stays.
-ghost use Rattle.std.specs.Prelude.{◌≡◌};
-ghost use Rattle.task.specs.Limits.{limits};
-ghost use Rattle.task.specs.Check.{sizes_verdict};
+// A task that was checked, and the limits within which every task stays.
+ghost use Rattle.task.specs.Lent.{lent};
+ghost use Rattle.task.specs.Checked.{Checked};
 
-use crate::verdict::Verdict;
+use crate::refusal::Refusal;
+use crate::tables::Tables;
 
-// How many facts and steps a task has.
-#[derive(Clone, Copy)]
-pub struct Task {
-    pub facts: usize,
-    pub steps: usize,
+/// Tables that nothing is wrong with.
+#[derive(Clone, Copy, Debug)]
+pub struct Task<'a> {
+    pub tables: Tables<'a>,
+    pub ghost valid: { Checked (lent tables) },
 }
 
-// The limits as values, for whoever cannot name a constant.
-#[derive(Clone, Copy)]
+/// The limits as values, for whoever cannot name a constant.
+#[derive(Clone, Copy, Debug, PartialEq, Eq)]
 pub struct Limits {
     pub facts: usize,
     pub steps: usize,
@@ -22,23 +22,27 @@ pub struct Limits {
     pub mark: u32,
 }
 
-impl Task {
-    // The most facts that a task has.
+impl<'a> Task<'a> {
+    ghost use Rattle.std.specs.Prelude.{◌≡◌, IfOk, IfErr, Ok, Err};
+    ghost use Rattle.task.specs.Limits.{limits};
+    ghost use Rattle.task.specs.Check.{verdict_of};
+
+    /// The most facts that a task has.
     pub const FACTS: usize = 256;
 
-    // The most steps that a task has.
+    /// The most steps that a task has.
     pub const STEPS: usize = 1024;
 
-    // The largest cost of a step.
+    /// The largest cost of a step, in clicks.
     pub const COST: u32 = 65535;
 
-    // The most entries of a walk.
+    /// The most entries of a walk.
     pub const WALK: usize = 65535;
 
-    // The distance of a fact that cannot be reached.
+    /// The distance of a fact that cannot be reached.
     pub const MARK: u32 = 4294967295;
 
-    // All the limits.
+    /// All the limits.
     pub fn limits() -> Limits
         ensures { result ≡ limits }
     {
@@ -51,19 +55,13 @@ impl Task {
         }
     }
 
-    // Refusals 1 and 2: whether a task may have so many facts and steps.
-    pub fn check_sizes(self) -> Verdict
-        ensures { result ≡ sizes_verdict self.facts self.steps }
+    /// The tables as a task, if nothing is wrong with them: refusals 1 to 5.
+    pub fn check(tables: Tables<'a>) -> Result<Self, Refusal>
+        ensures same { IfOk result (λ task. task.tables ≡ tables.entry) }
+        ensures fine { IfOk result (λ task. verdict_of (lent tables.entry) ≡ Ok tt) }
+        ensures refused { IfErr result (λ refusal. verdict_of (lent tables.entry) ≡ Err refusal) }
     {
-        if self.facts == 0 {
-            return Verdict::Refused(1, 0);
-        }
-        if Task::FACTS < self.facts {
-            return Verdict::Refused(1, 0);
-        }
-        if Task::STEPS < self.steps {
-            return Verdict::Refused(2, 0);
-        }
-        Verdict::Fine
+        crate::checks::check(tables)?;
+        Ok(Task { tables })
     }
 }

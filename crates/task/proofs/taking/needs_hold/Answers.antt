@@ -1,6 +1,0 @@
-use mathlib.Core.Path.{◌∙◌}
-use Rattle.sets.proofs.Words.{within_made_l}
-use Rattle.task.proofs.taking.needs_hold.Goals as goal
-
-pub returns : goal.returns
-returns c = c.within.ensures ∙ within_made_l 4 _ _ _ c.row.ensures
