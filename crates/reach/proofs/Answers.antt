@@ -1,32 +1,33 @@
--- What `grow` answers of the rows of checked tables is what the tables' task has within reach, because reach looks at nothing else of a task.
+-- What passes over the rows of checked tables find is what the tables' task has within reach, because reach looks at nothing else of a task.
 use Prim.Native.Nat.{ℕ}
-use mathlib.Core.Path.{◌≡◌, refl, sym, ap, ◌∙◌, fun_ext}
+use mathlib.Core.Path.{◌≡◌, refl, ap, ◌∙◌, fun_ext}
 use mathlib.Core.Bool.{true}
 use mathlib.Core.List.{List}
-use Rattle.sets.specs.declared.facts.Facts.{Facts}
+use Rattle.std.specs.Prelude.{Ok}
 use Rattle.sets.specs.Tests.{no, both}
 use Rattle.sets.specs.Sets.{Set, none, removed}
 use Rattle.sets.specs.Words.{has, words_of, row}
 use Rattle.sets.proofs.Tests.{both_comm}
-use Rattle.sets.proofs.Words.{set_read}
-use Rattle.task.specs.declared.verdict.Verdict.{Verdict}
-use Rattle.task.specs.declared.verdict.Verdict.TheVariants.{Fine, Refused}
+use Rattle.sets.proofs.Words.{none_read, whole_made}
 use Rattle.task.specs.Task.{Task}
 use Rattle.task.specs.Walks.{possible}
 use Rattle.task.specs.Tables.{Tables, view}
+use Rattle.task.specs.Rows.{rows_task, rows_without}
+use Rattle.task.specs.Refusal.{answered}
 use Rattle.task.specs.Check.{verdict_of}
-use Rattle.task.proofs.Checking.{Checked, checked}
-use Rattle.task.proofs.Tables.{plain, rows_plain}
+use Rattle.task.specs.Checked.{Checked}
+use Rattle.task.proofs.RowsRead.{plain, start_read, bounded}
 use Rattle.reach.specs.declared.Reached.{Reached}
+use Rattle.reach.specs.Least.{Closure}
+use Rattle.reach.specs.Closing.{Facts, Closes}
 use Rattle.reach.specs.Reach.{made, closure, reach, passes, without}
 use Rattle.reach.specs.Answer.{reached_by, reached_of}
-use Rattle.task.specs.Rows.{rows_task, Bounded}
+use Rattle.reach.proofs.Passes.{Passed, grown}
 
 -- the rows without the steps that are off are the task without them, its clears, costs and goal apart
-pub rows_without : (t : Tables) (off : Set)
-    → closure (rows_task t.facts t.steps t.needs t.sets off (has t.start)) ≡ closure (without (view t) off)
+pub closure_without : (t : Tables) (off : Set) → closure (rows_without t off) ≡ closure (without (view t) off)
 unfolding closure made possible removed both
-rows_without t off = ap (λ (on : Set). closure (with_on on)) (fun_ext (λ s. both_comm true (no (off s))))
+closure_without t off = ap (λ (on : Set). closure (with_on on)) (fun_ext (λ s. both_comm true (no (off s))))
   where
     with_on : Set → Task
     with_on on = record {
@@ -46,28 +47,24 @@ pub plain_reach : (t : Tables) → reach (plain t) ≡ reach (view t)
 unfolding reach closure made possible none no
 plain_reach t = refl
 
-module _ (t : Tables) {v : Verdict} (tested : v ≡ verdict_of t) where
-  -- nothing is reached where the task is refused
-  pub answer_refused : (set : Facts) (k p : ℕ) → v ≡ Refused k p → set.words ≡ words_of 4 none → record { verdict = v; set = set; passes = 0 } ≡ reached_of t
-  unfolding reached_of reached_by
-  answer_refused set k p e h =
-      rw (sym tested, e) (ap (λ (ws : List ℕ). record { verdict = Refused k p; set = record { words = ws }; passes = 0 }) h)
+-- and no step is off where the set of those that are is empty
+pub reached_all : (t : Tables) {off : List ℕ} → off ≡ words_of 16 none → reached_by (without (view t) (has off)) ≡ reached_by (view t)
+unfolding reached_by reach passes closure made possible removed both none no
+reached_all t e = ap (λ (off : Set). reached_by (without (view t) off)) (none_read 16 e)
 
-  module _ (fine : v ≡ Fine) {first : List ℕ} (read : first ≡ words_of 4 (has (row 4 0 t.start))) where
-    sound : Checked t
-    sound = checked t (sym tested ∙ fine)
+-- passes from the start of checked tables give the answer
+pub found : (t : Tables) → Checked t → (off : Set) (first : Facts) → first.words ≡ words_of 4 (has (row 4 0 t.start)) → (gives : Facts → Facts → Type 0)
+    → ((X Y : Facts) → gives X Y → Passed (rows_without t off) X Y) → {answer : Reached} → Closes gives answer.passes first answer.set
+    → answer ≡ reached_by (without (view t) off)
+unfolding reached_by reach passes
+found t valid off first read gives passed closes =
+    let start = start_read t valid read in
+    grown t.facts t.steps t.needs t.sets off first (rw start (bounded t valid)) (whole_made 4 first.words _ read) gives (λ X Y g. rw start (passed X Y g)) closes
+    ∙ ap (λ (X : Set). reached_by (rows_task t.facts t.steps t.needs t.sets off X)) start
+    ∙ ap (λ (c : Closure). record { set = record { words = words_of 4 c.set }; passes = c.passes }) (closure_without t off)
 
-    -- the rows may be passed on
-    pub answer_asks : Bounded t.facts t.needs t.sets (has first)
-    answer_asks = record {
-      few = sound.few_facts;
-      needs_below = sound.needs_facts;
-      sets_below = sound.sets_facts;
-      start_below = rw (set_read 4 t.start sound.start_length read) sound.start_facts;
-    }
-
-    -- with no step off, what is passed on is the task
-    pub answer_fine : {off : List ℕ} {r : Reached} → off ≡ words_of 16 none
-        → r ≡ reached_by Fine (rows_task t.facts t.steps t.needs t.sets (has off) (has first)) → r ≡ reached_of t
-    unfolding reached_of reached_by reach passes closure made possible none no
-    answer_fine e answer = answer ∙ ap (reached_by Fine) (rows_plain t sound e read) ∙ rw (sym tested, fine)
+-- with no step off it is the answer for the tables
+pub all_found : (t : Tables) → verdict_of t ≡ Ok tt → {off : List ℕ} → off ≡ words_of 16 none → {answer : Reached} → answer ≡ reached_by (without (view t) (has off))
+    → Ok answer ≡ reached_of t
+unfolding reached_of answered
+all_found t fine e a = rw fine (ap Ok (a ∙ reached_all t e))

@@ -10,7 +10,7 @@ use Rattle.sets.specs.Sets.{Set, joined, count}
 use Rattle.sets.specs.Words.{bit}
 use Rattle.sets.proofs.Tests.{equal_tests, both_l, either_l, either_r, either_cases, below_true, below_at}
 use Rattle.sets.proofs.Sets.{within_at, within_not, count_most, count_le, count_lt}
-use Rattle.sets.proofs.Bits.{bit_word_of, word_of_same}
+use Rattle.sets.proofs.OneWord.{bit_word_of, word_of_same}
 use Rattle.task.proofs.Walks.{Sub}
 use Rattle.reach.specs.Least.{held, pass, quiet, repeated, least}
 
@@ -111,6 +111,11 @@ module _ (n : ℕ) (rule : Set → Set) where
     pub least_keeps : (Q : Set → Type 0) → ((X : Set) → Q X → Q (pass n rule X)) → Q (held n seeds) → Q (least n rule seeds).set
     unfolding least
     least_keeps Q s = repeated_keeps Q s (suc n) (quiet n rule (held n seeds)) (held n seeds)
+
+    -- it has no member from n on
+    pub least_lt : (f : ℕ) → Is ((least n rule seeds).set f) → f < n
+    unfolding pass
+    least_lt = least_keeps (λ X. (f : ℕ) → Is (X f) → f < n) (λ X h. held_below n _) (held_below n seeds)
 
     -- a property of the seeds that the rule keeps is one of every member
     pub least_within : (P : ℕ → Type 0) → Kept n rule P → Within n seeds P → Within n (least n rule seeds).set P

@@ -1,6 +1,6 @@
 -- The code's passes are document 01's: a pass has added what the steps that it has gone through make, and the passes counted with those still to come
 -- are all passes.
-use Prim.Native.Nat.{ℕ, zero, suc, ◌+◌, ◌-◌, ◌≤◌, ◌<◌}
+use Prim.Native.Nat.{ℕ, suc, ◌+◌}
 use mathlib.Core.Path.{◌≡◌, refl, sym, ap, ap₂, ◌∙◌, subst, fun_ext}
 use mathlib.Core.Bool.{Bool, true, false, not}
 use mathlib.Core.List.{List}
@@ -12,21 +12,20 @@ use mir.Val.{Fits}
 use lib.ListN.{length, get_or}
 use borrow.Author.Tests.{not-true, not-false}
 use Rattle.sets.specs.Tests.{Is, no, both, either}
-use Rattle.sets.specs.Sets.{Set, joined, any, within, count}
+use Rattle.sets.specs.Sets.{Set, joined, any, within}
 use Rattle.sets.specs.Words.{has, words_of, row}
-use Rattle.sets.proofs.Tests.{not_both_ways, equal_tests, both_true, both_false_l, both_false_r, either_l, either_r, either_cases, no_true, no_of, compare}
-use Rattle.sets.proofs.Sets.{within_at, within_true, within_past, count_most, count_same}
-use Rattle.sets.proofs.Words.{has_made, made_has, length_words_of, words_of_fit, words_only, words_of_same, row_lt, row_read}
-use Rattle.sets.specs.declared.facts.Facts.{Facts}
-use Rattle.task.specs.declared.verdict.Verdict.TheVariants.{Fine}
+use Rattle.sets.proofs.Tests.{not_both_ways, equal_tests, both_true, both_false_l, both_false_r, either_l, either_cases, no_true, no_of, compare}
+use Rattle.sets.proofs.Sets.{within_past}
+use Rattle.sets.proofs.Words.{has_made, made_has, words_only, words_of_same, row_lt, row_read}
 use Rattle.task.specs.Task.{Task}
 use Rattle.task.specs.Walks.{possible}
-use Rattle.reach.specs.Least.{held, pass, quiet, repeated, least}
+use Rattle.reach.specs.Closing.{Facts, Closes}
+use Rattle.reach.specs.declared.Reached.{Reached}
 use Rattle.reach.specs.Reach.{made, closure, reach, passes}
 use Rattle.reach.specs.Answer.{reached_by}
 use Rattle.task.specs.Rows.{rows_task, RowsBelow, Bounded}
 use Rattle.reach.specs.OneStep.{added_by}
-use Rattle.reach.proofs.Least.{Rising, held_is, held_in, held_out, held_same, pass_more, least_passes}
+use Rattle.reach.proofs.ClosedSets.{FactsBelow, Gives, Growing, growing_next, closes_rule}
 use Rattle.reach.proofs.Ways.{made_at, made_rising}
 
 -- ---- one step of a pass
@@ -109,170 +108,60 @@ module _ (n : ℕ) (needs sets : List ℕ) (off start X : Set) where
       ∙ either_assoc (X f) (made (rows_task n s needs sets off start) X f) (added_by needs sets off X s f)
       ∙ ap (either (X f)) (sym (made_more below_n s f)))
 
-  pub pass_end : (s m : ℕ) {next : List ℕ} → s ≤ m → m ≤ s → next ≡ words_of 4 (joined X (made (rows_task n s needs sets off start) X))
-      → next ≡ words_of 4 (joined X (made (rows_task n m needs sets off start) X))
-  pass_end s m {next} l k e = let q : s ≡ m = omega arith in rw q at e
-
 pub pass_start : (n : ℕ) (needs sets ws : List ℕ) (off start : Set) → length ws ≡ 4 → ((i : ℕ) → Fits w64 (get_or ws i 0))
     → ws ≡ words_of 4 (joined (has ws) (made (rows_task n 0 needs sets off start) (has ws)))
 unfolding made any
 pass_start n needs sets ws off start size fits = added_none ws _ size fits (λ f. refl)
 
--- ---- passes until one adds nothing
+-- ---- passes until one adds nothing, over the tables
 
-module _ (n : ℕ) (rule : Set → Set) where
-  -- pass i begins with X: what is still to come from X on ends where all passes end, and after as many passes
-  module _ (seeds : Set) where
-    pub record Running (X : Set) (i : ℕ) : Type 0 where
-      pub left : ℕ
-      pub same_end : (least n rule seeds).set ≡ (repeated n rule left (quiet n rule X) X).set
-      pub counted : suc (least n rule seeds).passes ≡ i + (repeated n rule left (quiet n rule X) X).passes
-      pub enough : n < left + count n X
+either_again : (p q : Bool) → either p (either p q) ≡ either p q
+unfolding either
+either_again true q = refl
+either_again false q = refl
 
-    pub run_start : Running (held n seeds) 1
-    unfolding least
-    run_start = record { left = suc n; same_end = refl; counted = omega arith; enough = omega arith }
+-- a pass gives the set with what the steps make of it
+abbrev pub Passed : Task → Facts → Facts → Type 0
+Passed t X Y = Y.words ≡ words_of 4 (joined (has X.words) (made t (has X.words)))
 
-    pub run_next : (X : Set) (i : ℕ) → Running X i → quiet n rule X ≡ false → Running (pass n rule X) (suc i)
-    unfolding repeated
-    run_next X i r e =
-        go r.left r.enough (subst (λ b. (least n rule seeds).set ≡ (repeated n rule r.left b X).set) e r.same_end)
-        (subst (λ b. suc (least n rule seeds).passes ≡ i + (repeated n rule r.left b X).passes) e r.counted)
-      where
-        go : (k : ℕ) → n < k + count n X → (least n rule seeds).set ≡ (repeated n rule k false X).set
-            → suc (least n rule seeds).passes ≡ i + (repeated n rule k false X).passes → Running (pass n rule X) (suc i)
-        go zero m p q = absurd (omega (arith, count_most n X))
-        go (suc k) m p q = record { left = k; same_end = p; counted = omega arith; enough = omega (arith, pass_more n rule X e) }
-
-    pub run_stop : (X : Set) (i : ℕ) → Running X i → Is (quiet n rule X) → ((least n rule seeds).set ≡ X) × ((least n rule seeds).passes ≡ i)
-    unfolding repeated
-    run_stop X i r e =
-        go r.left (subst (λ b. (least n rule seeds).set ≡ (repeated n rule r.left b X).set) e r.same_end)
-        (subst (λ b. suc (least n rule seeds).passes ≡ i + (repeated n rule r.left b X).passes) e r.counted)
-      where
-        go : (k : ℕ) → (least n rule seeds).set ≡ (repeated n rule k true X).set
-            → suc (least n rule seeds).passes ≡ i + (repeated n rule k true X).passes → ((least n rule seeds).set ≡ X) × ((least n rule seeds).passes ≡ i)
-        go zero p q = (p, omega arith)
-        go (suc k) p q = (p, omega arith)
-
-    -- so many passes can be counted
-    pub run_most : (X : Set) (i : ℕ) → Running X i → i ≤ suc (suc n)
-    run_most X i r = omega (arith, r.counted, least_passes n rule seeds)
-
-  -- Z is what one pass made of Y, both seen below n only
-  module _ (rising : Rising n rule) (Y Z : Set) (pass_of : (f : ℕ) → f < n → Z f ≡ joined Y (rule Y) f) where
-    -- the rule looks at what lies below n
-    rule_held : (f : ℕ) → f < n → rule (held n Y) f ≡ rule Y f
-    rule_held f l =
-        equal_tests (rule (held n Y) f) (rule Y f) (rising (held n Y) Y (λ g k h. held_out n Y g h) f l) (rising Y (held n Y) (held_in n Y) f l)
-
-    pub pass_made : held n Z ≡ pass n rule (held n Y)
-    unfolding pass joined
-    pass_made = held_same n Z (joined (held n Y) (rule (held n Y))) (λ f l. pass_of f l ∙ sym (ap₂ either (held_is n Y f l) (rule_held f l)))
-
-    -- the pass adds nothing exactly if all of Z was in Y
-    pub quiet_made : within n Z Y ≡ quiet n rule (held n Y)
-    unfolding quiet joined
-    quiet_made =
-        equal_tests (within n Z Y) (within n (rule (held n Y)) (held n Y))
-        (λ h. within_true n (rule (held n Y)) (held n Y) (λ f l x.
-        held_in n Y f l (within_at n Z Y h f l (pass_of f l ∙ either_r (Y f) (rule Y f) (sym (rule_held f l) ∙ x)))))
-        (λ h. within_true n Z Y (λ f l x.
-        elim (either_cases (Y f) (rule Y f) (sym (pass_of f l) ∙ x)) [
-          | inl y ↦ y
-          | inr y ↦ held_out n Y f (within_at n (rule (held n Y)) (held n Y) h f l (rule_held f l ∙ y))
-        ]))
-
--- ---- the loop of `grow`, over the tables
-
--- what is made does not look at what held at first
-made_anywhere : (n m : ℕ) (needs sets : List ℕ) (off X S T : Set) → made (rows_task n m needs sets off S) X ≡ made (rows_task n m needs sets off T) X
-unfolding made possible
-made_anywhere n m needs sets off X S T = refl
-
-module _ (n m : ℕ) (needs sets : List ℕ) (off : Set) (first : List ℕ) where
+module _ (n m : ℕ) (needs sets : List ℕ) (off : Set) (first : Facts) (bounded : Bounded n needs sets (has first.words)) where
   abbrev task_of : Task
-  task_of = rows_task n m needs sets off (has first)
+  task_of = rows_task n m needs sets off (has first.words)
 
-  -- pass i begins with these words, which hold only facts
-  pub record Growing (words : List ℕ) (i : ℕ) : Type 0 where
-    pub whole : words ≡ words_of 4 (has words)
-    pub facts_only : (f : ℕ) → Is (has words f) → f < n
-    pub running : Running n (made task_of) (has first) (held n (has words)) i
-    pub few : i ≤ 258
-
-  pub grow_start : Bounded n needs sets (has first) → length first ≡ 4 → ((i : ℕ) → Fits w64 (get_or first i 0)) → Growing first 1
-  grow_start bounded size fits = record {
-    whole = words_only 4 first (has first) size (λ i. (fits i).fits) (λ f l. refl);
-    facts_only = bounded.start_below;
-    running = run_start n (made task_of) (has first);
-    few = omega arith;
+  pass_gives : (X Y : Facts) → FactsBelow n X → Passed task_of X Y → Gives n (made task_of) X Y
+  unfolding joined
+  pass_gives X Y facts e = record {
+    below_n =
+        λ f h.
+        elim (either_cases (has X.words f) (made task_of (has X.words) f) (made_has 4 Y.words _ e f h)) [
+          | inl x ↦ facts.below_n f x
+          | inr y ↦ let s = made_at task_of (has X.words) f y in bounded.sets_below s.0 f s.3
+        ];
+    made =
+        λ f l.
+        ap (either (has X.words f)) (has_made 4 Y.words (joined (has X.words) (made task_of (has X.words))) e f (omega (arith, bounded.few)))
+        ∙ either_again (has X.words f) (made task_of (has X.words) f);
   }
 
-  -- one pass made `next` of `words`, and r tells whether it added nothing
-  module _ (words next : List ℕ) (i : ℕ) {r : Bool} (bounded : Bounded n needs sets (has first)) (growing : Growing words i)
-      (made_of : next ≡ words_of 4 (joined (has words) (made (rows_task n m needs sets off (has words)) (has words))))
-      (tested : r ≡ within 256 (has next) (has words)) where
-    next_is : next ≡ words_of 4 (joined (has words) (made task_of (has words)))
-    next_is = rw (made_anywhere n m needs sets off (has words) (has words) (has first)) at made_of
+  -- what a pass gives has all that held
+  both_given : (X Y : Facts) → Passed task_of X Y → Y.words ≡ words_of 4 (joined (has X.words) (has Y.words))
+  unfolding joined
+  both_given X Y e =
+      e ∙ words_of_same 4 _ _ (λ f l. sym (either_again (has X.words f) _) ∙ ap (either (has X.words f)) (sym (has_made 4 Y.words _ e f l)))
 
-    next_at : (f : ℕ) → f < n → has next f ≡ joined (has words) (made task_of (has words)) f
-    next_at f l = has_made 4 next _ next_is f (omega (arith, bounded.few))
+  -- pass i begins with `words`, gives `next` and, as r tells, adds something: pass i + 1 begins with `next`
+  pub grow_next : (words next : Facts) (i : ℕ) {r : Bool} → Growing n (made task_of) first words i → Passed task_of words next
+      → r ≡ within 256 (has next.words) (has words.words) → r ≡ false → Growing n (made task_of) first next (i + 1)
+  grow_next words next i growing passed tested new =
+      rw add-one (subst (λ (ws : List ℕ). Growing n (made task_of) first (record { words = ws }) (suc i)) (sym (both_given words next passed))
+      (growing_next n (made task_of) bounded.few (made_rising task_of) first words next i (pass_gives words next growing.facts passed) growing (sym tested ∙ new)))
 
-    next_facts : (f : ℕ) → Is (has next f) → f < n
-    unfolding joined
-    next_facts f h =
-        elim (either_cases (has words f) (made task_of (has words) f) (made_has 4 next _ next_is f h)) [
-          | inl x ↦ growing.facts_only f x
-          | inr x ↦ let s = made_at task_of (has words) f x in bounded.sets_below s.0 f s.3
-        ]
-
-    -- the test of four words is the one that ends the passes
-    told : r ≡ quiet n (made task_of) (held n (has words))
-    told =
-        tested ∙ within_past n 256 (has next) (has words) bounded.few next_facts
-        ∙ quiet_made n (made task_of) (made_rising task_of) (has words) (has next) next_at
-
-    next_held : held n (has next) ≡ pass n (made task_of) (held n (has words))
-    next_held = pass_made n (made task_of) (made_rising task_of) (has words) (has next) next_at
-
-    pub grow_next : r ≡ false → Growing next (i + 1)
-    grow_next h =
-        let run = run_next n (made task_of) (has first) (held n (has words)) i growing.running (sym told ∙ h) in
-        record {
-          whole = words_only 4 next (has next) (ap length next_is ∙ length_words_of 4 _) (λ j. rw next_is (words_of_fit 4 _ j)) (λ f l. refl);
-          facts_only = next_facts;
-          running = rw (add-one, next_held) run;
-          few = omega (arith, bounded.few, run_most n (made task_of) (has first) _ (suc i) run);
-        }
-
-    -- a fact fewer is not held
-    pub grow_less : r ≡ false → n - count n (has next) < n - count n (has words)
-    grow_less h =
-        omega (
-          arith,
-          pass_more n (made task_of) (held n (has words)) (sym told ∙ h),
-          ap (count n) next_held,
-          count_same n (held n (has words)) (has words) (held_is n (has words)),
-          count_same n (held n (has next)) (has next) (held_is n (has next)),
-          count_most n (has next),
-        )
-
-    stopped : Is r → (words ≡ words_of 4 (reach task_of)) × (i ≡ passes task_of)
-    unfolding reach passes closure
-    stopped h =
-        let stop = run_stop n (made task_of) (has first) (held n (has words)) i growing.running (sym told ∙ h) in
-        (growing.whole ∙ words_of_same 4 (has words) _ (λ f l. all_held f ∙ ap (λ (X : Set). X f) (sym stop.0)), sym stop.1)
-      where
-        all_held : (f : ℕ) → has words f ≡ held n (has words) f
-        all_held f =
-            equal_tests (has words f) (held n (has words) f) (λ h. held_in n (has words) f (growing.facts_only f h) h) (held_out n (has words) f)
-
-  -- the answer where a pass from `set` adds nothing
-  pub grow_stop : (set : Facts) (next : List ℕ) (i : ℕ) {r : Bool} → Bounded n needs sets (has first) → Growing set.words i
-      → next ≡ words_of 4 (joined (has set.words) (made (rows_task n m needs sets off (has set.words)) (has set.words)))
-      → r ≡ within 256 (has next) (has set.words) → Is r → record { verdict = Fine; set = set; passes = i } ≡ reached_by Fine task_of
-  unfolding reached_by
-  grow_stop set next i bounded growing made_of tested h =
-      let stop = stopped set.words next i bounded growing made_of tested h in
-      ap₂ (λ (ws : List ℕ) (p : ℕ). record { verdict = Fine; set = record { words = ws }; passes = p }) stop.0 stop.1
+  -- so passes until one adds nothing give the answer
+  pub grown : first.words ≡ words_of 4 (has first.words) → (gives : Facts → Facts → Type 0) → ((X Y : Facts) → gives X Y → Passed task_of X Y)
+      → {answer : Reached} → Closes gives answer.passes first answer.set → answer ≡ reached_by task_of
+  unfolding reached_by reach passes closure
+  grown whole gives passed closes =
+      let end =
+      closes_rule n (made task_of) bounded.few (made_rising task_of) first gives (λ X Y facts g. pass_gives X Y facts (passed X Y g))
+      (record { whole = whole; below_n = bounded.start_below }) closes in
+      ap₂ (λ (ws : List ℕ) (p : ℕ). record { set = record { words = ws }; passes = p }) end.0 end.1

@@ -1,17 +1,16 @@
--- What `reach` answers: the verdict of checking, and beside it the set and the number of passes; nothing is reached in no pass where it refuses.
-use Rattle.sets.specs.Sets.{none}
+-- What `reach` answers: the set and the number of passes, or why the task is refused.
+use Rattle.std.specs.Prelude.{Result}
 use Rattle.sets.specs.Words.{words_of}
-use Rattle.task.specs.declared.verdict.Verdict.{Verdict}
-use Rattle.task.specs.declared.verdict.Verdict.TheVariants.{Fine, Refused}
+use Rattle.task.specs.declared.refusal.Refusal.{Refusal}
 use Rattle.task.specs.Task.{Task}
 use Rattle.task.specs.Tables.{Tables, view}
+use Rattle.task.specs.Refusal.{answered}
 use Rattle.task.specs.Check.{verdict_of}
 use Rattle.reach.specs.declared.Reached.{Reached}
 use Rattle.reach.specs.Reach.{reach, passes}
 
-unfoldable pub reached_by : Verdict → Task → Reached
-reached_by Fine t = record { verdict = Fine; set = record { words = words_of 4 (reach t) }; passes = passes t }
-reached_by (Refused number place) t = record { verdict = Refused number place; set = record { words = words_of 4 none }; passes = 0 }
+unfoldable pub reached_by : Task → Reached
+reached_by t = record { set = record { words = words_of 4 (reach t) }; passes = passes t }
 
-unfoldable pub reached_of : Tables → Reached
-reached_of t = reached_by (verdict_of t) (view t)
+unfoldable pub reached_of : Tables → Result Reached Refusal
+reached_of t = answered (verdict_of t) (reached_by (view t))

@@ -1,4 +1,5 @@
 pub mod Least
+pub mod Closing
 pub mod Reach
 pub mod Answer
 pub mod OneStep

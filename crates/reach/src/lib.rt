@@ -1,105 +1,71 @@
 // Reach: what some way leads to, clearing ignored, and the number of passes that find it.
 //
-// `reach` has no `requires`: it checks the task first and answers the verdict beside the set. Its
-// contract cites specs/Answer.antt; specs/Least.antt and specs/Reach.antt say what the set and the
-// number of passes are, and proofs/Ways.antt that the set is what some way leads to.
+// `reach` has no `requires`: it checks the task first. Its contract cites specs/Answer.antt;
+// specs/Least.antt and specs/Reach.antt say what the set and the number of passes are, and
+// proofs/Ways.antt that the set is what some way leads to.
 #![tactic(auto)]
+
+mod closing;
 
 ghost use Rattle.std.specs.Prelude.{◌≡◌};
 ghost use Rattle.sets.specs.Sets.{joined};
 ghost use Rattle.sets.specs.Words.{has, words_of};
-ghost use Rattle.task.specs.Tables.{tables};
-ghost use Rattle.reach.specs.Reach.{made};
+ghost use Rattle.task.specs.Lent.{lent};
+ghost use Rattle.task.specs.Tables.{view};
+ghost use Rattle.task.specs.Rows.{rows_without};
+ghost use Rattle.reach.specs.Reach.{made, without};
 ghost use Rattle.reach.specs.Answer.{reached_by, reached_of};
-ghost use Rattle.task.specs.Rows.{rows_task, RowsBelow, Bounded};
 ghost use Rattle.reach.specs.OneStep.{added_by};
 
+pub use closing::close;
 use sets::{Facts, Steps};
-use task::{Task, Verdict};
+use task::{Refusal, Tables, Task};
 
-// The facts within reach, and the number of passes that found them, the last one counted.
-#[derive(Clone, Copy)]
+/// The facts within reach, and the number of passes that found them, the last one counted.
+#[derive(Clone, Copy, Debug, PartialEq, Eq)]
 pub struct Reached {
-    pub verdict: Verdict,
     pub set: Facts,
     pub passes: usize,
 }
 
-// What is within reach of the start, clearing ignored. Refusals 1 to 5; a refused answer holds the
-// empty set and 0 passes.
-pub fn reach(
-    task: Task,
-    needs: &[u64],
-    sets: &[u64],
-    clears: &[u64],
-    costs: &[u32],
-    start: &[u64],
-    goal: &[u64],
-) -> Reached
-    ensures { result ≡ reached_of (tables task.facts task.steps needs.now sets.now clears.now costs.now start.now goal.now) }
+/// What is within reach of the start, clearing ignored. Refusals 1 to 5.
+#[tactic(auto, unfolding(crate::specs::Answer::reached_of, task::specs::Refusal::answered))]
+pub fn reach(tables: Tables<'_>) -> Result<Reached, Refusal>
+    ensures { result ≡ reached_of (lent tables.entry) }
 {
-    let verdict = task::check(task, needs, sets, clears, costs, start, goal);
-    let Verdict::Fine = verdict else {
-        return Reached {
-            verdict,
-            set: Facts::empty(),
-            passes: 0,
-        };
-    };
-    grow(task, needs, sets, Steps::empty(), Facts::row(start, 0))
+    let task = Task::check(tables)?;
+    Ok(reach_without(task, Steps::empty()))
 }
 
-// Passes from what holds at first until one adds nothing, without the steps that are off.
-fn grow(task: Task, needs: &[u64], sets: &[u64], off: Steps, start: Facts) -> Reached
-    requires { Bounded task.facts needs.now sets.now (has start.words) }
-    ensures { result ≡ reached_by Verdict.Fine (rows_task task.facts task.steps needs.now sets.now (has off.words) (has start.words)) }
+/// What is within reach of a checked task without the steps that are off.
+pub fn reach_without(task: Task<'_>, off: Steps) -> Reached
+    ensures { result ≡ reached_by (without (view (lent task.entry.tables)) (has off.words)) }
 {
-    let mut holding = start;
-    let mut passes: usize = 1;
-    loop {
-        let next = pass(task, needs, sets, off, holding);
-        if next.within(holding) {
-            return Reached {
-                verdict: Verdict::Fine,
-                set: holding,
-                passes,
-            };
-        }
-        holding = next;
-        passes += 1;
-    }
+    close(task.tables.start_facts(), |holding: Facts| {
+        pass(task, off, holding)
+    })
 }
 
 // One pass: what is set by all steps whose needs held when it began is added.
-fn pass(task: Task, needs: &[u64], sets: &[u64], off: Steps, holding: Facts) -> Facts
-    requires { RowsBelow task.facts needs.now }
-    ensures { result.words ≡ words_of 4 (joined (has holding.words) (made (rows_task task.facts task.steps needs.now sets.now (has off.words) (has holding.words)) (has holding.words))) }
+fn pass(task: Task<'_>, off: Steps, holding: Facts) -> Facts
+    ensures { result.words ≡ words_of 4 (joined (has holding.words) (made (rows_without (lent task.entry.tables) (has off.words)) (has holding.words))) }
 {
     let mut next = holding;
-    let mut step: usize = 0;
-    while step < task.steps {
-        next = add_step(needs, sets, step, off, holding, next);
-        step += 1;
+    for step in 0..task.tables.sizes.steps {
+        next = add_step(task.tables, step, off, holding, next);
     }
     next
 }
 
 // The set with what the step sets, if it is not off and its needs hold.
-fn add_step(
-    needs: &[u64],
-    sets: &[u64],
-    step: usize,
-    off: Steps,
-    holding: Facts,
-    next: Facts,
-) -> Facts
-    ensures { result.words ≡ words_of 4 (joined (has next.words) (added_by needs.now sets.now (has off.words) (has holding.words) step)) }
+fn add_step(tables: Tables<'_>, step: usize, off: Steps, holding: Facts, next: Facts) -> Facts
+    ensures { result.words ≡ words_of 4 (joined (has next.words) (added_by tables.entry.needs.now tables.entry.sets.now (has off.words) (has holding.words) step)) }
 {
     if off.has(step) {
         return next;
     }
-    if !task::needs_hold(needs, step, holding) {
+    if !tables.needs_hold(step, holding) {
         return next;
     }
-    next.joining(Facts::row(sets, step))
+    next.joining(tables.sets_of(step))
 }
