@@ -1,87 +1,105 @@
 -- When a replay refuses and when it answers, exactly: the lowest refusal that applies is given, and the walk is looked at only where none does.
 use Prim.Native.Nat.{ℕ, ◌≤◌, ◌<◌}
-use mathlib.Core.Path.{◌≡◌, refl, sym, ◌∙◌}
+use mathlib.Core.Path.{◌≡◌, refl, sym, ap, ◌∙◌}
 use mathlib.Core.List.{List}
 use mathlib.Core.Logic.{inl, inr, ◌↔◌}
 use native.Mathlib.Omega.{arith}
 use lib.ListN.{length, get_or}
 use Rattle.sets.specs.Tests.{Is}
+use Rattle.sets.specs.Sets.{none}
+use Rattle.sets.specs.Words.{has, words_of}
 use Rattle.sets.proofs.Tests.{compare}
-use Rattle.task.specs.declared.verdict.Verdict.{Verdict}
-use Rattle.task.specs.declared.verdict.Verdict.TheVariants.{Fine, Refused as Refusal}
+use Rattle.std.specs.Prelude.{Result, Ok, Err}
+use Rattle.task.specs.declared.refusal.Fault.TheVariants.{WalkLength, StepNumber}
+use Rattle.task.specs.declared.refusal.Refusal.{Refusal}
 use Rattle.task.specs.Tables.{Tables, view}
 use Rattle.task.specs.Walks.{real_walk, walk_cost}
 use Rattle.task.specs.Check.{verdict_of}
-use Rattle.replay.specs.declared.Replayed.TheVariants.{Done, Refused}
-use Rattle.replay.specs.Replay.{walked, first_past, walk_verdict, replayed_by, replayed_of}
-use Rattle.replay.proofs.Walked.{Numbered, done_is, never_refused}
-use Rattle.replay.proofs.Judging.{past_is, past_none, walk_task, walk_long, walk_past, walk_fine, judged, replay_refused}
+use Rattle.task.specs.Refusal.{number_of, refusal, answered}
+use Rattle.task.proofs.Refusals.{answered_ok, ok_not_err}
+use Rattle.replay.specs.declared.Replayed.{Replayed}
+use Rattle.replay.specs.declared.Replayed.TheVariants.{Done}
+use Rattle.replay.specs.Replay.{walked, first_past, walk_verdict, replayed_of}
+use Rattle.replay.proofs.Walked.{Numbered, done_is}
+use Rattle.replay.specs.Rows.{task_without}
+use Rattle.replay.proofs.Following.{all_followed}
+use Rattle.replay.proofs.Judging.{past_is, past_none, walk_task, walk_long, walk_past, walk_fine, judged}
+
+-- two refusals that are one answer are one
+same_refusal : {r s : Refusal} → ◌≡◌ {A = Result Replayed Refusal} (Err r) (Err s) → r ≡ s
+same_refusal e = cc
 
 module _ (t : Tables) (w : List ℕ) where
-  -- 1 to 5: what is wrong with the task is refused whatever the walk is
-  pub refused_task : (k p : ℕ) → verdict_of t ≡ Refusal k p → replayed_of t w ≡ Refused k p
-  refused_task k p e = sym (replay_refused t w (sym e ∙ walk_task t w refl k p e) k p refl)
+  -- what is wrong is refused
+  pub replay_refused : {r : Refusal} → walk_verdict t w ≡ Err r → replayed_of t w ≡ Err r
+  unfolding replayed_of answered
+  replay_refused e = rw e refl
 
-  module _ (fine : verdict_of t ≡ Fine) where
+  -- 1 to 5: what is wrong with the task is refused whatever the walk is
+  pub refused_task : {r : Refusal} → verdict_of t ≡ Err r → replayed_of t w ≡ Err r
+  refused_task e = replay_refused (walk_task t w e)
+
+  module _ (fine : verdict_of t ≡ Ok tt) where
     -- no refusal applies: the answer is that of the walk
-    pub replayed_walked : length w ≤ 65535 → Numbered (view t) w → replayed_of t w ≡ walked (view t) w
-    unfolding replayed_of replayed_by
+    pub replayed_walked : length w ≤ 65535 → Numbered (view t) w → replayed_of t w ≡ Ok (walked (view t) w)
+    unfolding replayed_of answered
     replayed_walked l n =
-        let none : first_past t.steps w ≡ length w = (past_none t.steps w).1 n in
-        rw (← walk_fine t w refl fine l refl (omega arith))
+        let none : first_past t.steps w ≡ length w = (past_none t.steps w).1 n in rw (walk_fine t w fine l (omega arith)) refl
 
     -- an entry that is no step's number is refused
-    refused_past : length w ≤ 65535 → first_past t.steps w < length w → replayed_of t w ≡ Refused 9 (first_past t.steps w)
-    refused_past l p = sym (replay_refused t w (walk_past t w refl fine l refl p) 9 _ refl)
+    refused_entry : length w ≤ 65535 → first_past t.steps w < length w → replayed_of t w ≡ Err (refusal StepNumber (first_past t.steps w))
+    refused_entry l p = replay_refused (walk_past t w fine l p)
 
     -- where there is none nothing is refused
-    not_refused : length w ≤ 65535 → length w ≤ first_past t.steps w → (k p : ℕ) → ¬ (replayed_of t w ≡ Refused k p)
-    unfolding replayed_of replayed_by
-    not_refused l q k p e = never_refused (view t) w k p (rw (← walk_fine t w refl fine l refl q) at e)
+    not_refused : length w ≤ 65535 → length w ≤ first_past t.steps w → {r : Refusal} → ¬ (replayed_of t w ≡ Err r)
+    unfolding replayed_of answered
+    not_refused l q e = ok_not_err (rw (walk_fine t w fine l q) at e)
 
     -- 8: the walk has more than 65,535 entries
-    pub long_is : (replayed_of t w ≡ Refused 8 0) ↔ (65535 < length w)
-    long_is = (only, (λ l. sym (replay_refused t w (walk_long t w refl fine l) 8 0 refl)))
+    pub long_is : (replayed_of t w ≡ Err (refusal WalkLength 0)) ↔ (65535 < length w)
+    long_is = (only, (λ l. replay_refused (walk_long t w fine l)))
       where
-        only : replayed_of t w ≡ Refused 8 0 → 65535 < length w
+        only : replayed_of t w ≡ Err (refusal WalkLength 0) → 65535 < length w
         only e =
             elim (compare 65535 (length w)) [
               | inl l ↦ l
               | inr l ↦
                   elim (compare (first_past t.steps w) (length w)) [
-                    | inl p ↦ let nine = refused_past l p in let z : ◌≡◌ {A = ℕ} 8 9 = cc in absurd (omega arith)
-                    | inr p ↦ absurd (not_refused l p 8 0 e)
+                    | inl p ↦ absurd (omega (arith, ap (λ (r : Refusal). number_of r.fault) (same_refusal (sym e ∙ refused_entry l p))))
+                    | inr p ↦ absurd (not_refused l p e)
                   ]
             ]
 
     -- 9: an entry is no step's number; the place is that of the first such entry, also where the walk is stuck before it
     pub past_refused_is : length w ≤ 65535 → (i : ℕ)
-        → (replayed_of t w ≡ Refused 9 i) ↔ ((i < length w) × (t.steps ≤ get_or w i 0) × ((k : ℕ) → k < i → get_or w k 0 < t.steps))
+        → (replayed_of t w ≡ Err (refusal StepNumber i)) ↔ ((i < length w) × (t.steps ≤ get_or w i 0) × ((k : ℕ) → k < i → get_or w k 0 < t.steps))
     past_refused_is l i = (only, there)
       where
-        only : replayed_of t w ≡ Refused 9 i → (i < length w) × (t.steps ≤ get_or w i 0) × ((k : ℕ) → k < i → get_or w k 0 < t.steps)
+        only : replayed_of t w ≡ Err (refusal StepNumber i) → (i < length w) × (t.steps ≤ get_or w i 0) × ((k : ℕ) → k < i → get_or w k 0 < t.steps)
         only e =
             elim (compare (first_past t.steps w) (length w)) [
               | inl p ↦
-                  let nine = refused_past l p in
-                  let same : first_past t.steps w ≡ i = cc in (past_is t.steps w i).0 (same, omega arith)
-              | inr p ↦ absurd (not_refused l p 9 i e)
+                  let same : first_past t.steps w ≡ i = ap (λ (r : Refusal). r.place) (same_refusal (sym (refused_entry l p) ∙ e)) in
+                  (past_is t.steps w i).0 (same, omega arith)
+              | inr p ↦ absurd (not_refused l p e)
             ]
 
-        there : (i < length w) × (t.steps ≤ get_or w i 0) × ((k : ℕ) → k < i → get_or w k 0 < t.steps) → replayed_of t w ≡ Refused 9 i
-        there h = let first = (past_is t.steps w i).1 h in rw first.0 at (refused_past l (omega (arith, first.0, first.1)))
+        there : (i < length w) × (t.steps ≤ get_or w i 0) × ((k : ℕ) → k < i → get_or w k 0 < t.steps) → replayed_of t w ≡ Err (refusal StepNumber i)
+        there h = let first = (past_is t.steps w i).1 h in rw first.0 at (refused_entry l (omega (arith, first.0, first.1)))
 
   -- done, exactly: nothing is refused, and the walk is a real walk of that cost
   pub replayed_done_is : (cost : ℕ)
-      → (replayed_of t w ≡ Done cost) ↔ ((walk_verdict t w ≡ Fine) × Is (real_walk (view t) w) × (walk_cost (view t) w ≡ cost))
-  unfolding replayed_of replayed_by
+      → (replayed_of t w ≡ Ok (Done cost)) ↔ ((walk_verdict t w ≡ Ok tt) × Is (real_walk (view t) w) × (walk_cost (view t) w ≡ cost))
+  unfolding replayed_of answered
   replayed_done_is cost = (
     (λ e.
-        let a = answered (walk_verdict t w) e in
+        let a = answered_ok (walk_verdict t w) e in
         let real = (done_is (view t) w (judged t w a.0).numbered cost).0 a.1 in (a.0, real.0, real.1)),
-    (λ h. rw h.0 ((done_is (view t) w (judged t w h.0).numbered cost).1 (h.1, h.2))),
+    (λ h. rw h.0 (ap Ok ((done_is (view t) w (judged t w h.0).numbered cost).1 (h.1, h.2)))),
   )
-    where
-      answered : (v : Verdict) → replayed_by v (view t) w ≡ Done cost → (v ≡ Fine) × (walked (view t) w ≡ Done cost)
-      answered Fine e = (refl, e)
-      answered (Refusal k p) e = let z : ◌≡◌ {A = ℕ} 0 1 = cc in absurd (omega arith)
+
+-- with no step off, following a walk that nothing is wrong with gives the answer for the tables
+pub all_answered : (t : Tables) (w : List ℕ) → walk_verdict t w ≡ Ok tt → {off : List ℕ} → off ≡ words_of 16 none → {r : Replayed}
+    → r ≡ walked (task_without t (has off)) w → Ok r ≡ replayed_of t w
+unfolding replayed_of answered
+all_answered t w fine none_off e = rw fine (ap Ok (e ∙ all_followed t none_off w))

@@ -8,10 +8,12 @@ use Rattle.sets.specs.Sets.{up_to, joined, removed, all, within, lowest}
 use Rattle.sets.specs.Words.{bit, has, row}
 use Rattle.task.specs.Tables.{Tables, tables, view}
 use Rattle.task.specs.Walks.{taken, possible, taking, after, goal_holds, walk_cost}
-use Rattle.task.specs.Verdict.{refused_if, or_else, first_refusal}
+use Rattle.std.specs.Prelude.{Err}
+use Rattle.task.specs.declared.refusal.Fault.TheVariants.{StepNumber}
+use Rattle.task.specs.Refusal.{refusal, refused_if, or_else, first_refusal, answered}
 use Rattle.task.specs.Check.{wrong_facts, wrong_steps, right_lengths, only_facts, right_sets, right_costs, sizes_verdict, verdict_of}
-use Rattle.replay.specs.declared.Replayed.TheVariants.{Done, Stuck, Short, Refused}
-use Rattle.replay.specs.Replay.{taken_before, walked, first_past, refused_past, walk_verdict, replayed_by, replayed_of}
+use Rattle.replay.specs.declared.Replayed.TheVariants.{Done, Stuck, Short}
+use Rattle.replay.specs.Replay.{taken_before, walked, first_past, refused_past, walk_verdict, replayed_of}
 
 -- rows of one word, and three that are empty
 abbrev pub four : List ℕ → List ℕ
@@ -47,8 +49,8 @@ pub not_paid_once : ¬ (walked (view first_task) (0 ∷ 0 ∷ 2 ∷ 3 ∷ 4 ∷ 
 not_paid_once e = let right = paid_twice in let z : ◌≡◌ {A = ℕ} 6 5 = cc in omega arith
 
 -- the walk 4, 5 is stuck at once, and 5 is no step's number: it is refused, and not stuck
-pub nine_first : replayed_of first_task (4 ∷ 5 ∷ []) ≡ Refused 9 1
-unfolding replayed_of replayed_by walk_verdict refused_past first_past lowest verdict_of sizes_verdict wrong_facts wrong_steps right_lengths right_sets only_facts right_costs first_refusal or_else refused_if up_to within all has bit row no both either implies below same pick
+pub nine_first : replayed_of first_task (4 ∷ 5 ∷ []) ≡ Err (refusal StepNumber 1)
+unfolding replayed_of answered walk_verdict refused_past first_past lowest verdict_of sizes_verdict wrong_facts wrong_steps right_lengths right_sets only_facts right_costs first_refusal or_else refused_if up_to within all has bit row no both either implies below same pick
 nine_first = refl
 
 -- of entries that are no step's number the first is given

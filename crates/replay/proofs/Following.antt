@@ -1,6 +1,6 @@
 -- Why following a walk answers as it should: at every turn what is left of the walk, from the set that holds there, makes up the rest of the whole answer.
 use Prim.Native.Nat.{ℕ, ◌+◌, ◌*◌, ◌≤◌, ◌<◌}
-use mathlib.Core.Path.{◌≡◌, sym, ap, fun_ext, ◌∙◌}
+use mathlib.Core.Path.{◌≡◌, sym, ap, ◌∙◌}
 use mathlib.Core.Bool.{Bool, true, false, not}
 use mathlib.Core.List.{List, ◌∷◌}
 use mathlib.Core.Logic.{inl, inr}
@@ -10,23 +10,25 @@ use lib.ListN.{length, get_or, drop, drop_of_length-le}
 use lib.Seq.{drop-cons}
 use borrow.Author.Tests.{not-true, not-false}
 use Rattle.sets.specs.Tests.{Is, no, both}
-use Rattle.sets.specs.Sets.{Set, within}
+use Rattle.sets.specs.Sets.{Set, none, within}
+use Rattle.sets.proofs.Sets.{within_past}
 use Rattle.sets.specs.Words.{has, words_of, row}
-use Rattle.sets.proofs.Tests.{fails, no_of, no_true, both_false_l, compare}
-use Rattle.sets.proofs.Words.{has_lt, has_of, has_of_past, length_words_of, row_lt, within_made_l}
+use Rattle.sets.proofs.Words.{has_lt, set_made, row_lt, none_read}
 use Rattle.task.specs.Task.{Task}
 use Rattle.task.specs.Walks.{taken, possible, taking, after, goal_holds, walk_cost}
 use Rattle.task.proofs.Walks.{taken_cases, walk_cost_most}
 use Rattle.replay.specs.declared.Replayed.TheVariants.{Done, Stuck, Short}
 use Rattle.replay.specs.Replay.{taken_before, walked}
-use Rattle.replay.specs.Rows.{rows_task, Walkable}
+use Rattle.task.specs.Tables.{Tables, view}
+use Rattle.task.specs.Checked.{Checked}
+use Rattle.task.proofs.RowsRead.{needs_view, start_read, goal_read}
+use Rattle.replay.specs.Rows.{task_without}
 use Rattle.replay.proofs.Walked.{taken_next, taken_stop, answers_stuck, answers_done, answers_short}
 
 -- ---- over any task: i entries are taken, X holds, and so much is paid
 
 -- what is left of the walk, from X on, makes up the rest of what can be taken, of what holds in the end and of the cost
 pub record Followed (t : Task) (w : List ℕ) (X : Set) (cost i : ℕ) : Type 0 where
-  pub passed : i ≤ length w
   pub taken : taken_before t t.start w ≡ i + taken_before t X (drop i w)
   pub ends : after t t.start w ≡ after t X (drop i w)
   pub paid : walk_cost t w ≡ cost + walk_cost t (drop i w)
@@ -36,7 +38,7 @@ module _ (t : Task) (w : List ℕ) where
   pub followed_first : (X : Set) → X ≡ t.start → Followed t w X 0 0
   followed_first X e =
       let same_taken = ap (λ (Y : Set). taken_before t Y w) e in
-      record { passed = omega arith; taken = omega arith; ends = ap (λ (Y : Set). after t Y w) (sym e); paid = omega arith }
+      record { taken = omega arith; ends = ap (λ (Y : Set). after t Y w) (sym e); paid = omega arith }
 
   module _ (X : Set) (cost i : ℕ) (f : Followed t w X cost i) where
     -- what is left begins with entry i
@@ -50,7 +52,6 @@ module _ (t : Task) (w : List ℕ) where
         let one_more = ap (taken_before t X) (rest l) ∙ taken_next t X (get_or w i 0) (drop (i + 1) w) p in
         let same_cost = ap (walk_cost t) (rest l) in
         record {
-          passed = omega arith;
           taken = omega (arith, f.taken, one_more);
           ends = f.ends ∙ ap (after t X) (rest l);
           paid = omega (arith, f.paid, same_cost);
@@ -86,73 +87,60 @@ module _ (t : Task) (w : List ℕ) where
       pub followed_short : goal_holds t X ≡ false → walked t w ≡ Short
       followed_short g = answers_short t w all_taken (ap (goal_holds t) at_end ∙ g)
 
--- ---- over rows of words, in the terms of the code
+-- ---- over the tables, in the terms of the code
 
--- four words made of a set that has no member from 256 on stand for it
-four_words : (ws : List ℕ) (X : Set) → ws ≡ words_of 4 X → ((f : ℕ) → Is (X f) → f < 256) → has ws ≡ X
-four_words ws X e short = ap has e ∙ fun_ext member
-  where
-    member : (f : ℕ) → has (words_of 4 X) f ≡ X f
-    member f =
-        elim (compare f 256) [
-          | inl l ↦ has_of 4 X f l
-          | inr l ↦ has_of_past 4 X f l ∙ sym (fails (X f) (λ h. omega (arith, short f h)))
-        ]
-
--- and are four
-pub four_long : (ws : List ℕ) (X : Set) → ws ≡ words_of 4 X → length ws ≡ 4
-four_long ws X e = ap length e ∙ length_words_of 4 X
-
-module _ (needs sets clears costs start goal off walk : List ℕ) where
+module _ (t : Tables) (valid : Checked t) (off walk : List ℕ) where
   abbrev followed : Task
-  followed = rows_task needs sets clears costs start goal (has off)
+  followed = task_without t (has off)
 
-  -- the loop begins with the start's row
-  pub follow_first : (held : List ℕ) → held ≡ words_of 4 (has (row 4 0 start)) → Followed followed walk (has held) 0 0
-  follow_first held e = followed_first followed walk (has held) (four_words held (has (row 4 0 start)) e (row_lt 4 0 start))
+  -- the loop begins with the start
+  pub follow_first : (held : List ℕ) → held ≡ words_of 4 (has (row 4 0 t.start)) → Followed followed walk (has held) 0 0
+  follow_first held e = followed_first followed walk (has held) (start_read t valid e)
 
   module _ (held : List ℕ) (cost i : ℕ) (f : Followed followed walk (has held) cost i) where
-    module _ (l : i < length walk) where
+    module _ (l : i < length walk) {step : ℕ} (read : step ≡ get_or walk i 0) where
       -- the sum of the costs fits 64 bits
-      pub follow_cost : Walkable costs walk → cost + get_or costs (get_or walk i 0) 0 ≤ 65535 * 65535
-      follow_cost can =
+      pub follow_cost : length walk ≤ 65535 → {more : ℕ} → more ≡ get_or t.costs step 0 → cost + more ≤ 65535 * 65535
+      follow_cost short e =
           omega (
             arith,
             followed_cost followed walk (has held) cost i f l,
-            walk_cost_most followed 65535 can.cheap walk,
-            can.short,
+            walk_cost_most followed 65535 valid.costs_most walk,
+            ap (λ (s : ℕ). get_or t.costs s 0) read,
           )
 
-      module _ {r : Bool} (told : r ≡ both (no (has off (get_or walk i 0))) (within 256 (has (row 4 (get_or walk i 0) needs)) (has held))) where
+      module _ {r : Bool} (told : r ≡ both (no (has off step)) (within 256 (has (row 4 step t.needs)) (has held))) where
         -- what `can_take` tells is whether the step is possible
         asked : r ≡ possible followed (has held) (get_or walk i 0)
         unfolding possible
-        asked = told
+        asked = rw (← read) (told ∙ ap (both (no (has off step))) (needs_view t valid step (has held)))
 
         -- it is not: stuck at i
         pub follow_stuck : not r ≡ true → Stuck i ≡ walked followed walk
         follow_stuck h = sym (followed_stuck followed walk (has held) cost i f l (sym asked ∙ not-true r h))
 
         -- it is: a turn of the loop, with the set that `take_step` makes
-        pub follow_next : not r ≡ false → length held ≡ 4 → (next : List ℕ)
-            → next ≡ words_of 4 (taken (has held) (has (row 4 (get_or walk i 0) clears)) (has (row 4 (get_or walk i 0) sets)))
-            → Followed followed walk (has next) (cost + get_or costs (get_or walk i 0) 0) (i + 1)
+        pub follow_next : not r ≡ false → length held ≡ 4 → {next : List ℕ} {more : ℕ}
+            → next ≡ words_of 4 (taken (has held) (has (row 4 step t.clears)) (has (row 4 step t.sets))) → more ≡ get_or t.costs step 0
+            → Followed followed walk (has next) (cost + more) (i + 1)
         unfolding taking
-        follow_next h long next made =
-            rw (four_words next _ made short) (followed_next followed walk (has held) cost i f l (sym asked ∙ not-false r h))
+        follow_next h long {next} made e =
+            rw (set_made 4 next _ made short, e, read) (followed_next followed walk (has held) cost i f l (sym asked ∙ not-false r h))
           where
-            short : (g : ℕ) → Is (taken (has held) (has (row 4 (get_or walk i 0) clears)) (has (row 4 (get_or walk i 0) sets)) g) → g < 256
+            short : (g : ℕ) → Is (taken (has held) (has (row 4 step t.clears)) (has (row 4 step t.sets)) g) → g < 256
             short g h =
-                elim (taken_cases (has held) (has (row 4 (get_or walk i 0) clears)) (has (row 4 (get_or walk i 0) sets)) g h) [
+                elim (taken_cases (has held) (has (row 4 step t.clears)) (has (row 4 step t.sets)) g h) [
                   | inl x ↦ omega (arith, has_lt held g x)
-                  | inr x ↦ row_lt 4 (get_or walk i 0) sets g x
+                  | inr x ↦ row_lt 4 step t.sets g x
                 ]
 
-    module _ (l : length walk ≤ i) {wanted : List ℕ} (made : wanted ≡ words_of 4 (has (row 4 0 goal))) {r : Bool} (told : r ≡ within 256 (has wanted) (has held)) where
-      -- whether the goal's row is within what holds is whether the goal holds
+    module _ (l : length walk ≤ i) {wanted : List ℕ} (made : wanted ≡ words_of 4 (has (row 4 0 t.goal))) {r : Bool} (told : r ≡ within 256 (has wanted) (has held)) where
+      -- whether the goal is within what holds is whether the goal holds
       reached : r ≡ goal_holds followed (has held)
       unfolding goal_holds
-      reached = told ∙ within_made_l 4 wanted _ _ made
+      reached =
+          told ∙ ap (λ (X : Set). within 256 X (has held)) (goal_read t valid made)
+          ∙ within_past t.facts 256 (has t.goal) (has held) valid.few_facts valid.goal_facts
 
       -- the two answers after the loop
       pub follow_done : r ≡ true → Done cost ≡ walked followed walk
@@ -161,14 +149,7 @@ module _ (needs sets clears costs start goal off walk : List ℕ) where
       pub follow_short : r ≡ false → Short ≡ walked followed walk
       follow_short h = sym (followed_short followed walk (has held) cost i f l (sym reached ∙ h))
 
--- ---- each answer of `can_take`
-
-module _ (is_off needed : Bool) {p : Bool} (e : p ≡ is_off) where
-  -- the step is off
-  pub can_take_off : p ≡ true → false ≡ both (no is_off) needed
-  can_take_off h = sym (both_false_l _ _ (no_of is_off (sym e ∙ h)))
-
-  -- it is on, and its needs decide
-  pub can_take_on : p ≡ false → {r : Bool} → r ≡ needed → r ≡ both (no is_off) needed
-  unfolding both
-  can_take_on h k = k ∙ sym (rw (no_true is_off (sym e ∙ h)))
+-- with no step off it is the tables' task that is followed
+pub all_followed : (t : Tables) {off : List ℕ} → off ≡ words_of 16 none → (walk : List ℕ) → walked (task_without t (has off)) walk ≡ walked (view t) walk
+unfolding none no
+all_followed t e walk = ap (λ (off : Set). walked (task_without t off) walk) (none_read 16 e)

@@ -1,5 +1,5 @@
 pub mod Walked
-pub mod Following
 pub mod Judging
+pub mod Following
 pub mod Answers
 pub mod Examples

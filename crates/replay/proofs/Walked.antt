@@ -13,7 +13,7 @@ use Rattle.sets.proofs.Tests.{tell, both_l, both_r, both_true, below_true, below
 use Rattle.task.specs.Task.{Task}
 use Rattle.task.specs.Walks.{possible, taking, can_take, after, goal_holds, real_walk, walk_cost, way_to_goal}
 use Rattle.task.proofs.Walks.{can_take_none, can_take_cons, can_take_first, can_take_rest, walk_is_way}
-use Rattle.replay.specs.declared.Replayed.TheVariants.{Done, Stuck, Short, Refused}
+use Rattle.replay.specs.declared.Replayed.TheVariants.{Done, Stuck, Short}
 use Rattle.replay.specs.Replay.{taken_before, walked}
 
 -- every entry of the walk is the number of a step
@@ -137,15 +137,6 @@ module _ (t : Task) where
           | stuck l a ↦ let z : ◌≡◌ {A = ℕ} 0 1 = cc in absurd (omega arith)
           | done l g a ↦ let z : ◌≡◌ {A = ℕ} 0 1 = cc in absurd (omega arith)
           | short l g a ↦ (l, g)
-        ]
-
-    -- following a walk never refuses
-    pub never_refused : (number place : ℕ) → ¬ (walked t w ≡ Refused number place)
-    never_refused number place e =
-        elim outcome [
-          | stuck l a ↦ let z : ◌≡◌ {A = ℕ} 0 1 = cc in omega arith
-          | done l g a ↦ let z : ◌≡◌ {A = ℕ} 0 1 = cc in omega arith
-          | short l g a ↦ let z : ◌≡◌ {A = ℕ} 0 1 = cc in omega arith
         ]
 
     -- ---- each answer, exactly

@@ -1,17 +1,17 @@
 -- Replaying a walk, in document 01's words: what it answers over a task free of tables, what it refuses, and the two together.
-use Rattle.std.specs.Prelude.{ℕ, suc, List, [], ◌∷◌, length, get_or}
+use Rattle.std.specs.Prelude.{ℕ, suc, List, [], ◌∷◌, length, get_or, Result, Ok, Err}
 use Rattle.sets.specs.Tests.{no, below, pick}
 use Rattle.sets.specs.Sets.{Set, lowest}
-use Rattle.task.specs.declared.verdict.Verdict.{Verdict}
-use Rattle.task.specs.declared.verdict.Verdict.TheVariants.{Fine, Refused as Refusal}
+use Rattle.task.specs.declared.refusal.Fault.TheVariants.{WalkLength, StepNumber}
+use Rattle.task.specs.declared.refusal.Refusal.{Refusal}
 use Rattle.task.specs.Limits.{limits}
 use Rattle.task.specs.Task.{Task}
 use Rattle.task.specs.Walks.{possible, taking, after, goal_holds, walk_cost}
 use Rattle.task.specs.Tables.{Tables, view}
-use Rattle.task.specs.Verdict.{refused_if, first_refusal}
+use Rattle.task.specs.Refusal.{Verdict, refusal, refused_if, first_refusal, answered}
 use Rattle.task.specs.Check.{verdict_of}
 use Rattle.replay.specs.declared.Replayed.{Replayed}
-use Rattle.replay.specs.declared.Replayed.TheVariants.{Done, Stuck, Short, Refused}
+use Rattle.replay.specs.declared.Replayed.TheVariants.{Done, Stuck, Short}
 
 module _ (t : Task) where
   -- how many entries, from the first on, can be taken in turn where X held at first
@@ -31,18 +31,13 @@ first_past m w = lowest (length w) (λ i. no (below (get_or w i 0) m))
 
 -- 9, with that place, where there is such an entry
 unfoldable pub refused_past : ℕ → List ℕ → Verdict
-refused_past m w = pick (below (first_past m w) (length w)) (Refusal 9 (first_past m w)) Fine
+refused_past m w = pick (below (first_past m w) (length w)) (Err (refusal StepNumber (first_past m w))) (Ok tt)
 
 -- 1 to 5 of the task, 8 for a walk of too many entries, 9 for an entry that is no step's number
 unfoldable pub walk_verdict : Tables → List ℕ → Verdict
 walk_verdict t w =
-    first_refusal (verdict_of t ∷ refused_if (below limits.walk (length w)) 8 ∷ refused_past t.steps w ∷ [])
+    first_refusal (verdict_of t ∷ refused_if (below limits.walk (length w)) WalkLength ∷ refused_past t.steps w ∷ [])
 
--- refused with the verdict's number and place, or answered by the walk
-unfoldable pub replayed_by : Verdict → Task → List ℕ → Replayed
-replayed_by Fine t w = walked t w
-replayed_by (Refusal number place) t w = Refused number place
-
--- what `replay` answers for the tables as they are lent
-unfoldable pub replayed_of : Tables → List ℕ → Replayed
-replayed_of t w = replayed_by (walk_verdict t w) (view t) w
+-- what `replay` answers for the tables as they are lent: why it refuses, or the answer by the walk
+unfoldable pub replayed_of : Tables → List ℕ → Result Replayed Refusal
+replayed_of t w = answered (walk_verdict t w) (walked (view t) w)

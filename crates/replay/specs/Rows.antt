@@ -1,27 +1,19 @@
--- What the private workers' contracts speak of: the task that following a walk looks at, and what it asks of the walk.
-use Rattle.std.specs.Prelude.{ℕ, ◌≤◌, ◌<◌, List, length, get_or}
+-- What the private workers' contracts speak of.
 use Rattle.sets.specs.Tests.{no}
 use Rattle.sets.specs.Sets.{Set}
-use Rattle.sets.specs.Words.{has, row}
-use Rattle.task.specs.Limits.{limits}
 use Rattle.task.specs.Task.{Task}
+use Rattle.task.specs.Tables.{Tables, view}
 
--- the task that is followed: rows of four words, the costs, and the steps that are off
-abbrev pub rows_task : List ℕ → List ℕ → List ℕ → List ℕ → List ℕ → List ℕ → Set → Task
-rows_task needs sets clears costs start goal off = record {
-  facts = limits.facts;
-  steps = length costs;
-  needs = λ s. has (row 4 s needs);
-  sets = λ s. has (row 4 s sets);
-  clears = λ s. has (row 4 s clears);
-  cost = λ s. get_or costs s 0;
-  start = has (row 4 0 start);
-  goal = has (row 4 0 goal);
+-- the tables' task without the steps that are off
+abbrev pub task_without : Tables → Set → Task
+task_without t off = record {
+  facts = t.facts;
+  steps = t.steps;
+  needs = (view t).needs;
+  sets = (view t).sets;
+  clears = (view t).clears;
+  cost = (view t).cost;
+  start = (view t).start;
+  goal = (view t).goal;
   on = λ s. no (off s);
 }
-
--- every entry has a cost, and their sum fits 64 bits
-pub record Walkable (costs walk : List ℕ) : Type 0 where
-  pub priced : (i : ℕ) → i < length walk → get_or walk i 0 < length costs
-  pub cheap : (s : ℕ) → get_or costs s 0 ≤ limits.cost
-  pub short : length walk ≤ limits.walk

@@ -5,173 +5,89 @@
 // of each answer exactly when it is given.
 #![tactic(auto)]
 
-ghost use Rattle.std.specs.Prelude.{◌≡◌};
+ghost use Rattle.std.specs.Prelude.{◌≡◌, Ok, nat_le};
+ghost use Rattle.std.specs.List.{position};
 ghost use Rattle.sets.specs.Tests.{no, both};
 ghost use Rattle.sets.specs.Sets.{within};
 ghost use Rattle.sets.specs.Words.{has, row};
-ghost use Rattle.task.specs.Tables.{tables};
-ghost use Rattle.replay.specs.Answers.{number_of, place_of, cost_of};
-ghost use Rattle.replay.specs.Replay.{walked, first_past, walk_verdict, replayed_of};
-ghost use Rattle.replay.specs.Rows.{rows_task, Walkable};
+ghost use Rattle.task.specs.Lent.{lent};
+ghost use Rattle.replay.specs.Replay.{walked, refused_past, walk_verdict, replayed_of};
+ghost use Rattle.replay.specs.Rows.{task_without};
 
 use sets::{Facts, Steps};
-use task::{Task, Verdict};
+use task::{Fault, Refusal, Tables, Task};
 
-// Done with the cost, stuck at an entry of the walk, short of the goal, or refused with document 01's
-// number and place.
-#[derive(Clone, Copy)]
+/// Done with the cost in clicks, stuck at an entry of the walk, or short of the goal.
+#[derive(Clone, Copy, Debug, PartialEq, Eq)]
 pub enum Replayed {
     Done(u64),
     Stuck(usize),
     Short,
-    Refused(u8, usize),
 }
 
-impl Replayed {
-    // The refusal's number; 0 where nothing is refused.
-    pub fn number(self) -> u8
-        ensures { result ≡ number_of self }
-    {
-        match self {
-            Replayed::Done(_) => 0,
-            Replayed::Stuck(_) => 0,
-            Replayed::Short => 0,
-            Replayed::Refused(number, _) => number,
-        }
-    }
-
-    // The entry where the walk is stuck, or the refusal's place; 0 where there is neither.
-    pub fn place(self) -> usize
-        ensures { result ≡ place_of self }
-    {
-        match self {
-            Replayed::Done(_) => 0,
-            Replayed::Stuck(entry) => entry,
-            Replayed::Short => 0,
-            Replayed::Refused(_, place) => place,
-        }
-    }
-
-    // The cost of a walk that is done; 0 of any other.
-    pub fn cost(self) -> u64
-        ensures { result ≡ cost_of self }
-    {
-        match self {
-            Replayed::Done(cost) => cost,
-            Replayed::Stuck(_) => 0,
-            Replayed::Short => 0,
-            Replayed::Refused(_, _) => 0,
-        }
-    }
-}
-
-// What becomes of a walk, given by the numbers of its steps. Refusals 1 to 5, 8 and 9.
-pub fn replay(
-    task: Task,
-    needs: &[u64],
-    sets: &[u64],
-    clears: &[u64],
-    costs: &[u32],
-    start: &[u64],
-    goal: &[u64],
-    walk: &[u16],
-) -> Replayed
-    ensures { result ≡ replayed_of (tables task.facts task.steps needs.now sets.now clears.now costs.now start.now goal.now) walk.now }
+/// What becomes of a walk, given by the numbers of its steps. Refusals 1 to 5, 8 and 9; the place of 9
+/// is that of the first entry that is no step's number.
+#[tactic(auto, unfolding(crate::specs::Replay::replayed_of, task::specs::Refusal::answered))]
+pub fn replay(tables: Tables<'_>, walk: &[u16]) -> Result<Replayed, Refusal>
+    ensures { result ≡ replayed_of (lent tables.entry) walk.now }
 {
-    match check_walk(task, needs, sets, clears, costs, start, goal, walk) {
-        Verdict::Refused(number, place) => Replayed::Refused(number, place),
-        Verdict::Fine => follow(
-            needs,
-            sets,
-            clears,
-            costs,
-            start,
-            goal,
-            Steps::empty(),
-            walk,
-        ),
+    let task = Task::check(tables)?;
+    check_walk(task, walk)?;
+    Ok(follow(task, Steps::empty(), walk))
+}
+
+// What is wrong with a walk through a task, if anything.
+#[tactic(auto, unfolding(crate::specs::Replay::walk_verdict, task::specs::Refusal::first_refusal, task::specs::Refusal::or_else, task::specs::Refusal::refused_if, sets::specs::Tests::below))]
+fn check_walk(task: Task<'_>, walk: &[u16]) -> Result<(), Refusal>
+    ensures { result ≡ walk_verdict (lent task.entry.tables) walk.now }
+{
+    Fault::WalkLength.unless(walk.len() <= Task::WALK)?;
+    check_entries(walk, task.tables.sizes.steps)
+}
+
+// Whether each entry is the number of one of m steps.
+fn check_entries(walk: &[u16], m: usize) -> Result<(), Refusal>
+    ensures { result ≡ refused_past m walk.now }
+{
+    match first_past(walk, m) {
+        Some(entry) => Err(Fault::StepNumber.at(entry)),
+        None => Ok(()),
     }
 }
 
-// What is wrong with a task or a walk through it, if anything.
-fn check_walk(
-    task: Task,
-    needs: &[u64],
-    sets: &[u64],
-    clears: &[u64],
-    costs: &[u32],
-    start: &[u64],
-    goal: &[u64],
-    walk: &[u16],
-) -> Verdict
-    ensures { result ≡ walk_verdict (tables task.facts task.steps needs.now sets.now clears.now costs.now start.now goal.now) walk.now }
+// The place of the first entry that is m or more.
+fn first_past(walk: &[u16], m: usize) -> Option<usize>
+    ensures { result ≡ position (nat_le m) walk.now }
 {
-    let verdict = task::check(task, needs, sets, clears, costs, start, goal);
-    let Verdict::Fine = verdict else {
-        return verdict;
-    };
-    if Task::WALK < walk.len() {
-        return Verdict::Refused(8, 0);
-    }
-    let past = first_past(walk, task.steps);
-    if past < walk.len() {
-        return Verdict::Refused(9, past);
-    }
-    Verdict::Fine
-}
-
-// The place of the first entry that is m or more; the walk's length where there is none.
-fn first_past(walk: &[u16], m: usize) -> usize
-    ensures { result ≡ first_past m walk.now }
-{
-    let mut i: usize = 0;
-    while i < walk.len() {
-        if m <= walk[i] as usize {
-            return i;
-        }
-        i += 1;
-    }
-    i
-}
-
-// Whether a step is on and all its needs hold.
-fn can_take(needs: &[u64], step: usize, off: Steps, holding: Facts) -> bool
-    ensures { result ≡ both (no (has off.words step)) (within 256 (has (row 4 step needs.now)) (has holding.words)) }
-{
-    if off.has(step) {
-        return false;
-    }
-    task::needs_hold(needs, step, holding)
+    walk.iter().position(|&step| m <= usize::from(step))
 }
 
 // Takes the steps of a walk in turn, without those that are off.
-fn follow(
-    needs: &[u64],
-    sets: &[u64],
-    clears: &[u64],
-    costs: &[u32],
-    start: &[u64],
-    goal: &[u64],
-    off: Steps,
-    walk: &[u16],
-) -> Replayed
-    requires { Walkable costs.now walk.now }
-    ensures { result ≡ walked (rows_task needs.now sets.now clears.now costs.now start.now goal.now (has off.words)) walk.now }
+fn follow(task: Task<'_>, off: Steps, walk: &[u16]) -> Replayed
+    requires { walk_verdict (lent task.tables) walk.now ≡ Ok tt }
+    ensures { result ≡ walked (task_without (lent task.entry.tables) (has off.words)) walk.now }
 {
-    let mut holding = Facts::row(start, 0);
+    let tables = task.tables;
+    let mut holding = tables.start_facts();
     let mut cost: u64 = 0;
-    let mut i: usize = 0;
-    while i < walk.len() {
-        let step = walk[i] as usize;
-        if !can_take(needs, step, off, holding) {
-            return Replayed::Stuck(i);
+    for (entry, &step) in walk.iter().enumerate() {
+        let step = usize::from(step);
+        if !can_take(tables, step, off, holding) {
+            return Replayed::Stuck(entry);
         }
-        holding = task::take_step(sets, clears, step, holding);
-        cost += costs[step] as u64;
-        i += 1;
+        holding = tables.take_step(step, holding);
+        cost += u64::from(tables.costs[step]);
     }
-    if Facts::row(goal, 0).within(holding) {
+    if tables.goal_facts().within(holding) {
         return Replayed::Done(cost);
     }
     Replayed::Short
+}
+
+// Whether a step is on and all its needs hold.
+#[tactic(auto, unfolding(sets::specs::Tests::both, sets::specs::Tests::no))]
+fn can_take(tables: Tables<'_>, step: usize, off: Steps, holding: Facts) -> bool
+    ensures { result ≡ both (no (has off.words step)) (within 256 (has (row 4 step tables.entry.needs.now)) (has holding.words)) }
+{
+    !off.has(step) && tables.needs_hold(step, holding)
 }

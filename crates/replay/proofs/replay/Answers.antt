@@ -1,12 +1,11 @@
-use borrow.Author.Rules.{rules}
-use Rattle.replay.proofs.Judging.{replay_refused, replay_walkable, replay_followed}
+use Rattle.std.proofs.Common.{rules, ◌∙◌, sym}
+use Rattle.replay.proofs.Answers.{refused_task, all_answered}
 use Rattle.replay.proofs.replay.Goals as goal
 
-pub follow-requires : goal.follow-requires
-follow-requires c = replay_walkable _ _ c.check_walk.ensures c.in-Fine.is
+pub returns-in_err-task : goal.returns-in_err-task
+returns-in_err-task c = search (rules, refused_task)
 
-pub returns-in-Refused : goal.returns-in-Refused
-returns-in-Refused c = search (rules, replay_refused)
-
-pub returns-in-Fine : goal.returns-in-Fine
-returns-in-Fine c = search (rules, replay_followed)
+pub returns : goal.returns
+returns c =
+    all_answered _ _ (rw c.in_ok-task.ensures.same at (sym c.check_walk.ensures ∙ c.in_ok-check_walk.was)) c.empty.ensures
+    (rw c.in_ok-task.ensures.same at c.follow.ensures)
