@@ -1,10 +1,10 @@
+pub mod Listed
 pub mod EveryWay
 pub mod MustRows
 pub mod Demand2
 pub mod WayLabels
 pub mod Writing
 pub mod Narrowing
-pub mod RowAnswers
 pub mod Unions
 pub mod JustBefore
 pub mod OneWay
