@@ -1,33 +1,32 @@
 -- Each answer of `distances` from the tests that lead to it; and why what it writes are the distances of the task that the tables stand for: no step is off,
 -- and the row of the start is the start.
-use Prim.Native.Nat.{ℕ, ◌+◌, ◌*◌, ◌≤◌, ◌<◌}
-use mathlib.Core.Path.{◌≡◌, refl, sym, ap, ◌∙◌}
+use Prim.Native.Nat.{ℕ, ◌≤◌, ◌<◌}
+use mathlib.Core.Path.{◌≡◌, refl, sym, ap, ap₂, ◌∙◌}
 use mathlib.Core.List.{List, [], ◌++◌}
 use native.Mathlib.Omega.{arith}
 use native.Mathlib.Nat.{le_antisymm}
 use lib.ListN.{length, take, drop, length-take, get_or-append}
-use borrow.Author.Rules.{rules}
 use Rattle.sets.specs.Tests.{Is, no}
 use Rattle.sets.specs.Sets.{Set, none}
 use Rattle.sets.specs.Words.{has, words_of, row}
-use Rattle.sets.proofs.Tests.{no_true, below_true, below_false}
-use Rattle.sets.proofs.Words.{has_made, has_row}
-use Rattle.task.specs.declared.verdict.Verdict.{Verdict}
-use Rattle.task.specs.declared.verdict.Verdict.TheVariants.{Fine, Refused}
+use Rattle.sets.proofs.Tests.{below_true, below_false}
+use Rattle.std.specs.Prelude.{Ok, Err}
+use Rattle.task.specs.declared.refusal.Fault.TheVariants.{ShortResult}
+use Rattle.task.specs.declared.refusal.Refusal.{Refusal}
 use Rattle.task.specs.Limits.{limits}
 use Rattle.task.specs.Task.{Task}
 use Rattle.task.specs.Tables.{Tables, view}
+use Rattle.task.specs.Refusal.{Verdict, refusal}
 use Rattle.task.specs.Check.{verdict_of}
 use Rattle.task.proofs.Refusals.{refuse, skip, none_left, skip_fine, stay}
-use Rattle.task.proofs.Checking.{Checked, checked}
+use Rattle.task.specs.Checked.{Checked}
+use Rattle.task.proofs.Checking.{checked}
+use Rattle.task.proofs.RowsRead.{plain, rows_plain}
 use Rattle.distance.specs.Distance.{largest, entry, distances, distance, set_distance}
 use Rattle.task.specs.Rows.{rows_task}
 use Rattle.distance.specs.Answer.{distances_verdict, written_by, distances_written}
 use Rattle.distance.proofs.Extremes.{largest_mono}
 use Rattle.distance.proofs.Equation.{length_distances, distances_same}
-
-pub prefix_length : (n : ℕ) (out : List ℕ) → n ≤ length out → n ≡ length (take n out)
-prefix_length n out h = sym (simp length-take (omega arith))
 
 -- ---- the task that the workers are given
 
@@ -36,33 +35,26 @@ module _ (t : Tables) (c : Checked t) (n : ℕ) (facts : n ≡ t.facts) (off sta
   abbrev given : Task
   given = rows_task n (length t.costs) t.needs t.sets (has off) (has start)
 
-  same_start : (f : ℕ) → f < t.facts → has start f ≡ has t.start f
-  same_start f l =
-      let b : f < 4 * 64 = omega (arith, c.few_facts) in
-      let first : 0 * 4 * 64 + f ≡ f = omega arith in
-      has_made 4 start (has (row 4 0 t.start)) row_read f b ∙ has_row 4 0 t.start f b ∙ ap (has t.start) first
-
-  same_on : (s : ℕ) → s < length t.costs → Is (no (has off s))
-  unfolding none
-  same_on s l = no_true (has off s) (has_made 16 off none all_on s (omega (arith, c.few_steps, c.costs_length)))
-
   -- it has the distances of the task that the tables stand for
   pub given_distances : (mark : ℕ) → distances given (entry t.costs) mark ≡ distances (view t) (view t).cost mark
+  unfolding none no
   given_distances mark =
-      distances_same mark given (view t) (entry t.costs)
+      ap (λ (u : Task). distances u (entry t.costs) mark)
+      (ap₂ (λ (facts steps : ℕ). rows_task facts steps t.needs t.sets (has off) (has start)) facts c.costs_length ∙ rows_plain t c all_on row_read)
+      ∙ distances_same mark (plain t) (view t) (entry t.costs)
       record {
-        facts = facts;
-        steps = c.costs_length;
-        start = λ f l h. same_start f (omega arith) ∙ h;
-        on = λ s l h. same_on s l;
+        facts = refl;
+        steps = refl;
+        start = λ f l h. h;
+        on = λ s l h. refl;
         sets = λ s f l b h. h;
         needs = λ s f l b h. h;
         cost = λ s l. omega arith;
       }
       record {
-        facts = sym facts;
-        steps = sym c.costs_length;
-        start = λ f l h. sym (same_start f l) ∙ h;
+        facts = refl;
+        steps = refl;
+        start = λ f l h. h;
         on = λ s l h. refl;
         sets = λ s f l b h. h;
         needs = λ s f l b h. h;
@@ -72,33 +64,33 @@ module _ (t : Tables) (c : Checked t) (n : ℕ) (facts : n ≡ t.facts) (off sta
 -- ---- each answer, and what then stands in the result table
 
 module _ (t : Tables) (out : List ℕ) where
-  untouched : {k p : ℕ} → distances_verdict t (length out) ≡ Refused k p → out ≡ distances_written t out
+  untouched : {r : Refusal} → distances_verdict t (length out) ≡ Err r → out ≡ distances_written t out
   unfolding distances_written written_by
   untouched e = sym (ap (λ (v : Verdict). written_by v t out) e)
 
   module _ {v : Verdict} (checks : v ≡ verdict_of t) where
     -- refused by checking
-    pub answer_refused : {k p : ℕ} → v ≡ Refused k p → v ≡ distances_verdict t (length out)
+    pub answer_refused : {r : Refusal} → v ≡ Err r → v ≡ distances_verdict t (length out)
     unfolding distances_verdict
     answer_refused e = checks ∙ sym (stay _ (sym checks ∙ e))
 
-    pub table_refused : {k p : ℕ} → v ≡ Refused k p → out ≡ distances_written t out
+    pub table_refused : {r : Refusal} → v ≡ Err r → out ≡ distances_written t out
     table_refused e = untouched (sym (answer_refused e) ∙ e)
 
-    module _ (fine : v ≡ Fine) where
+    module _ (fine : v ≡ Ok tt) where
       -- a result table that is too short
-      pub answer_short : length out < t.facts → Refused 6 0 ≡ distances_verdict t (length out)
+      pub answer_short : length out < t.facts → ◌≡◌ {A = Verdict} (Err (refusal ShortResult 0)) (distances_verdict t (length out))
       unfolding distances_verdict
-      answer_short l = sym (skip_fine _ (sym checks ∙ fine) ∙ refuse 6 [] (below_true _ _ l))
+      answer_short l = sym (skip_fine _ (sym checks ∙ fine) ∙ refuse ShortResult [] (below_true _ _ l))
 
       pub table_short : length out < t.facts → out ≡ distances_written t out
       table_short l = untouched (sym (answer_short l))
 
       -- one with room for all facts
       module _ (room : t.facts ≤ length out) where
-        pub answer_fine : Fine ≡ distances_verdict t (length out)
+        pub answer_fine : ◌≡◌ {A = Verdict} (Ok tt) (distances_verdict t (length out))
         unfolding distances_verdict
-        answer_fine = sym (skip_fine _ (sym checks ∙ fine) ∙ skip 6 [] (below_false _ _ room) ∙ none_left)
+        answer_fine = sym (skip_fine _ (sym checks ∙ fine) ∙ skip ShortResult [] (below_false _ _ room) ∙ none_left)
 
         pub table_fine : (off start new : List ℕ) → off ≡ words_of 16 none → start ≡ words_of 4 (has (row 4 0 t.start))
             → new ≡ distances (rows_task (length (take t.facts out)) (length t.costs) t.needs t.sets (has off) (has start)) (entry t.costs)
@@ -107,10 +99,8 @@ module _ (t : Tables) (out : List ℕ) where
         unfolding distances_written written_by
         table_fine off start new all_on row_read made =
             let c = checked t (sym checks ∙ fine) in
-            let e = given_distances t c _ (sym (prefix_length t.facts out room)) off start all_on row_read limits.mark in
+            let e = given_distances t c _ (simp length-take (omega arith)) off start all_on row_read limits.mark in
             ap (λ (l : List ℕ). l ++ drop t.facts out) (made ∙ e) ∙ ap (λ (v : Verdict). written_by v t out) answer_fine
-
-pub ruleset answering = (rules, prefix_length, answer_refused, table_refused, answer_short, table_short, answer_fine)
 
 -- ---- the distance of a set, read from such a table
 

@@ -217,12 +217,7 @@ module _ (t : Task) (c : ℕ → ℕ) (mark : ℕ) where
 
   -- ---- relaxing
 
-  -- a table that is nowhere below the distances is not relaxed below them
-  pub relax_above : (d : ℕ → ℕ) → Under t.facts (distance t c mark) d
-      → (s f : ℕ) → s < t.steps → f < t.facts → Is (t.on s) → Is (t.sets s f) → distance t c mark f ≤ through_step t c d s
-  relax_above d h s f l b on set = omega (arith, distance_step s f (omega arith) l b on set, through_up t c (distance t c mark) d h s)
-
-  -- and one that no step relaxes any more is the distances
+  -- a table nowhere below the distances that no step relaxes any more is the distances
   pub relaxed_is : (d : ℕ → ℕ) → Under t.facts (distance t c mark) d → Under t.facts d (λ f. mark) → ((f : ℕ) → f < t.facts → Is (t.start f) → d f ≡ 0)
       → Still t c 0 t.steps d → (f : ℕ) → f < t.facts → d f ≡ distance t c mark f
   relaxed_is d above most first still f l =

@@ -6,10 +6,11 @@ use native.Mathlib.Omega.{arith}
 use Rattle.sets.specs.Tests.{no, both, either, implies, below, same, pick}
 use Rattle.sets.specs.Sets.{all, within, up_to}
 use Rattle.sets.specs.Words.{bit, has, row}
-use Rattle.task.specs.declared.verdict.Verdict.TheVariants.{Refused}
+use Rattle.std.specs.Prelude.{Err}
+use Rattle.task.specs.declared.refusal.Fault.TheVariants.{ShortResult}
 use Rattle.task.specs.Limits.{limits}
 use Rattle.task.specs.Tables.{Tables, tables, view}
-use Rattle.task.specs.Verdict.{refused_if, or_else, first_refusal}
+use Rattle.task.specs.Refusal.{refusal, refused_if, or_else, first_refusal}
 use Rattle.task.specs.Check.{wrong_facts, wrong_steps, right_lengths, only_facts, right_sets, right_costs, sizes_verdict, verdict_of}
 use Rattle.distance.specs.Distance.{largest, least, list_of, entry, through_step, right_side, rounds, distances, distance, set_distance, goal_distance}
 use Rattle.distance.specs.Answer.{distances_verdict, written_by, distances_written}
@@ -68,7 +69,7 @@ unfolding distances_written written_by distances_verdict verdict_of sizes_verdic
     first_refusal or_else all within up_to implies below no either distances rounds list_of right_side through_step largest least pick both has bit same row
 report_written = refl
 
-pub too_short : distances_verdict report 4 ≡ Refused 6 0
+pub too_short : distances_verdict report 4 ≡ Err (refusal ShortResult 0)
 unfolding distances_verdict verdict_of sizes_verdict wrong_facts wrong_steps right_lengths only_facts right_sets right_costs refused_if first_refusal or_else all within
     up_to implies below no either both has bit same row
 too_short = refl

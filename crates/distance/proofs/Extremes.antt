@@ -1,17 +1,18 @@
 -- Laws of the largest and the least over the members of a set below n: by induction on n, where a number below n + 1 is n or is below n.
 use Prim.Native.Nat.{ℕ, zero, suc, ◌≤◌, ◌<◌, max}
-use mathlib.Core.Path.{◌≡◌, refl, sym, ◌∙◌}
-use mathlib.Core.Bool.{true, false}
-use mathlib.Core.List.{List}
+use mathlib.Core.Path.{◌≡◌, refl, ap, ◌∙◌}
+use mathlib.Core.Bool.{Bool, true, false}
+use mathlib.Core.List.{List, [], ◌∷◌, ◌++◌}
 use mathlib.Core.Logic.{◌⊎◌, inl, inr}
-use native.Mathlib.Decide.{ℕ_discrete}
-use native.Mathlib.Nat.{not-suc-le-zero, le_antisymm}
+use native.Mathlib.Nat.{not-suc-le-zero}
 use native.Mathlib.Omega.{arith}
 use lib.ListN.{length, get_or-eq_default}
+use Rattle.std.specs.List.{fold}
+use Rattle.std.proofs.lemmas.List.Sums.{fold-append}
 use Rattle.sets.specs.Tests.{Is, pick}
-use Rattle.sets.specs.Sets.{Set, count, dropped, lowest}
+use Rattle.sets.specs.Sets.{Set, count, members}
 use Rattle.sets.proofs.Tests.{tell, not_both_ways, pick_true, pick_false, compare}
-use Rattle.sets.proofs.Sets.{last, count_lt, count_full, dropped_itself, dropped_other, lowest_is}
+use Rattle.sets.proofs.Sets.{last, count_lt, count_full}
 use Rattle.distance.specs.Distance.{largest, least, entry}
 
 -- ---- the largest
@@ -126,21 +127,15 @@ all_counted n X h i l =
       | inr a ↦ absurd (omega (arith, count_lt n X (λ f. true) (λ f k x. refl) i l a refl, count_full n (λ f. true) (λ f k. refl)))
     ]
 
--- ---- taking members out, the lowest first
+-- ---- over the list of the members, lowest first
 
--- the largest is that of the member taken out, or of those left
-pub largest_next : (n : ℕ) (X : Set) (d : ℕ → ℕ) (i : ℕ) → i < n → Is (X i) → largest n X d ≡ max (d i) (largest n (dropped X i) d)
-largest_next n X d i l h =
-    le_antisymm
-    (largest_le X d n _ (λ j k x. elim (ℕ_discrete j i) [
-      | yes e ↦ rw e (omega arith)
-      | no e ↦ omega (arith, largest_ge (dropped X i) d n j k (dropped_other X i j e ∙ x))
-    ]))
-    (omega (arith, largest_ge X d n i l h, largest_mono n n (dropped X i) X d d (λ j k x. (k, other j x, omega arith))))
+-- the largest is what a loop over them finds that begins at 0
+pub largest_members : (n : ℕ) (X : Set) (d : ℕ → ℕ) → fold (λ a f. max a (d f)) 0 (members n X) ≡ largest n X d
+unfolding largest members pick
+largest_members zero X d = refl
+largest_members (suc n) X d = go (X n) (largest_members n X d)
   where
-    other : (j : ℕ) → Is (dropped X i j) → Is (X j)
-    other j x = elim (ℕ_discrete j i) [ yes e ↦ not_both_ways x (dropped_itself X i j e) | no e ↦ sym (dropped_other X i j e) ∙ x ]
-
--- where none is left, it is 0
-pub largest_end : (n : ℕ) (X : Set) (d : ℕ → ℕ) → n ≤ lowest n X → largest n X d ≡ 0
-largest_end n X d h = omega (arith, largest_le X d n 0 (λ i l x. not_both_ways x ((lowest_is n X).least i (omega arith))))
+    go : (b : Bool) → fold (λ a f. max a (d f)) 0 (members n X) ≡ largest n X d
+        → fold (λ a f. max a (d f)) 0 (members n X ++ pick b (n ∷ []) []) ≡ max (largest n X d) (pick b (d n) 0)
+    go true ih = fold-append (λ a f. max a (d f)) 0 (members n X) (n ∷ []) ∙ ap (λ (a : ℕ). max a (d n)) ih
+    go false ih = fold-append (λ a f. max a (d f)) 0 (members n X) [] ∙ ih ∙ omega arith

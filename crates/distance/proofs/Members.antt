@@ -1,24 +1,25 @@
--- The loops that go through a set's members, lowest first: each turn takes out the lowest member of what is left, so that nothing is left in the end.
-use Prim.Native.Nat.{ℕ, ◌+◌, ◌≤◌, ◌<◌, max}
+-- The loops over a table: one goes through the members of a set, lowest first, the other through all numbers of the table.
+use Prim.Native.Nat.{ℕ, zero, suc, ◌+◌, ◌≤◌, ◌<◌}
 use mathlib.Core.Path.{◌≡◌, refl, sym, ◌∙◌, subst}
 use mathlib.Core.Bool.{Bool, true, false, true≢false, false≢true}
-use mathlib.Core.List.{List}
+use mathlib.Core.List.{List, [], ◌∷◌}
 use mathlib.Core.Logic.{◌⊎◌, inl, inr}
 use native.Mathlib.Decide.{ℕ_discrete}
-use native.Mathlib.Nat.{le_antisymm}
+use native.Mathlib.Nat.{not-suc-le-zero}
 use native.Mathlib.Omega.{arith}
 use lib.ListN.{length, set, length-set, get_or-eq_default}
 use lib.Seq.{get_or-set_same, get_or-set_other}
+use Rattle.std.specs.Prelude.{All, Contains}
+use Rattle.std.proofs.lemmas.List.Elements.{All-nil, All-cons, All-head, All-tail, All-append, All-contains, Contains-push, Contains-append_left}
 use Rattle.sets.specs.Tests.{Is, pick}
-use Rattle.sets.specs.Sets.{Set, dropped, count, lowest}
+use Rattle.sets.specs.Sets.{Set, dropped, lowest, members}
 use Rattle.sets.specs.Words.{has, words_of}
 use Rattle.sets.proofs.Tests.{not_both_ways, compare, pick_true, pick_false}
-use Rattle.sets.proofs.Sets.{dropped_itself, dropped_other, count_same, count_dropped, lowest_is}
+use Rattle.sets.proofs.Sets.{last, dropped_itself, dropped_other, lowest_is}
 use Rattle.sets.proofs.Words.{has_made, made_has}
-use Rattle.distance.specs.Distance.{largest, list_of, entry}
-use Rattle.distance.specs.Relaxing.{sum, SameOrLowered, Lowered}
-use Rattle.distance.proofs.Extremes.{largest_mono, largest_next, largest_end}
-use Rattle.distance.proofs.Lists.{list_only, sum_lt}
+use Rattle.distance.specs.Distance.{entry}
+use Rattle.distance.specs.Relaxing.{sum, SameOrLowered}
+use Rattle.distance.proofs.Lists.{sum_lt}
 
 -- ---- one member out of what is left
 
@@ -45,55 +46,46 @@ module _ (left : List ℕ) (f : ℕ) (first : f ≡ lowest 256 (has left)) (more
           | no e ↦ inr (sym (dropped_other (has left) f g e) ∙ sym (has_made 4 rest (dropped (has left) f) made g l) ∙ h)
         ]
 
-    -- there is one fewer
-    pub fewer : count 256 (has rest) < count 256 (has left)
-    fewer = omega (arith, count_same 256 (has rest) (dropped (has left) f) (has_made 4 rest (dropped (has left) f) made), count_dropped 256 (has left) f more first_in)
+-- ---- the list of the members
 
--- ---- the largest among the members
+-- what holds of each member holds of all in the list, and the other way round
+members_all : (n : ℕ) (X : Set) → All (λ f. Is (X f)) (members n X)
+unfolding members pick
+members_all zero X = All-nil (λ f. Is (X f))
+members_all (suc n) X = All-append (λ f. Is (X f)) (members n X) (pick (X n) (n ∷ []) []) (members_all n X) (last_of (X n) refl)
+  where
+    last_of : (b : Bool) → X n ≡ b → All (λ f. Is (X f)) (pick b (n ∷ []) [])
+    last_of true h = All-cons (λ f. Is (X f)) n [] h (All-nil (λ f. Is (X f)))
+    last_of false h = All-nil (λ f. Is (X f))
 
-largest_same : (n : ℕ) (X Y : Set) (d : ℕ → ℕ) → ((f : ℕ) → f < n → X f ≡ Y f) → largest n X d ≡ largest n Y d
-largest_same n X Y d h =
-    le_antisymm (largest_mono n n X Y d d (λ f l x. (l, sym (h f l) ∙ x, omega arith))) (largest_mono n n Y X d d (λ f l x. (l, h f l ∙ x, omega arith)))
-
--- what was found and what is left make up the whole
-module _ (d : ℕ → ℕ) (whole : ℕ) (left : List ℕ) (f most : ℕ) (so_far : max most (largest 256 (has left) d) ≡ whole) (first : f ≡ lowest 256 (has left)) where
-  -- and so they do when the lowest has been looked at, which has more, or not
-  module _ (more : f < 256) (rest : List ℕ) (made : rest ≡ words_of 4 (dropped (has left) f)) (here next : ℕ) (read : here ≡ d f) where
-    with_lowest : max most (max here (largest 256 (has rest) d)) ≡ whole
-    with_lowest =
-        let out = largest_same 256 (has rest) (dropped (has left) f) d (has_made 4 rest (dropped (has left) f) made) in
-        omega (arith, out, largest_next 256 (has left) d f more (first_in left f first more))
-
-    pub farther : most < here → next ≡ here → max next (largest 256 (has rest) d) ≡ whole
-    farther l e = omega (arith, with_lowest)
-
-    pub no_farther : here ≤ most → next ≡ most → max next (largest 256 (has rest) d) ≡ whole
-    no_farther l e = omega (arith, with_lowest)
-
-  pub farthest : 256 ≤ f → most ≡ whole
-  farthest end = omega (arith, largest_end 256 (has left) d (omega arith))
+in_members : (n : ℕ) (X : Set) (f : ℕ) → f < n → Is (X f) → Contains (members n X) f
+unfolding members pick
+in_members zero X f l h = absurd (not-suc-le-zero l)
+in_members (suc n) X f l h =
+    elim (last n f l) [
+      | inl e ↦ rw (e, rw e at h) (Contains-push (members n X) n)
+      | inr b ↦ Contains-append_left (members n X) _ f (in_members n X f b h)
+    ]
 
 -- ---- lowering the members
 
--- what is left of X has not been looked at yet
-pub record Lowering (X L : Set) (x : ℕ) (d z : List ℕ) (r : Bool) : Type 0 where
+-- the rest of the members of X have not been looked at yet
+pub record Lowering (X : Set) (rest : List ℕ) (x : ℕ) (d z : List ℕ) (r : Bool) : Type 0 where
   pub size : length z ≡ length d
   pub each : (f : ℕ) → SameOrLowered X x d z f
-  pub part : (f : ℕ) → Is (L f) → Is (X f)
-  pub same : (f : ℕ) → Is (L f) → entry z f ≡ entry d f
+  pub part : All (λ f. Is (X f)) rest
   pub kept : r ≡ false → z ≡ d
-  pub still : r ≡ false → (f : ℕ) → f < 256 → Is (X f) → L f ≡ false → entry d f ≤ x
+  pub still : r ≡ false → All (λ f. entry d f ≤ x) rest → (f : ℕ) → f < 256 → Is (X f) → entry d f ≤ x
   pub fell : r ≡ true → sum (length d) (entry z) < sum (length d) (entry d)
 
-pub lower_start : (X : Set) (x : ℕ) (d : List ℕ) → Lowering X X x d d false
+pub lower_start : (X : Set) (x : ℕ) (d : List ℕ) → Lowering X (members 256 X) x d d false
 lower_start X x d =
     record {
       size = refl;
       each = λ f. inl refl;
-      part = λ f h. h;
-      same = λ f h. refl;
+      part = members_all 256 X;
       kept = λ e. refl;
-      still = λ e f l h k. not_both_ways h k;
+      still = λ e all f l h. All-contains (λ f. entry d f ≤ x) (members 256 X) f all (in_members 256 X f l h);
       fell = λ e. absurd (false≢true e);
     }
 
@@ -102,33 +94,31 @@ lowered_le X x d z f (inl e) = omega arith
 lowered_le X x d z f (inr e) = omega (arith, e.1, e.2)
 
 -- a number that can be lowered has a place in the table
-pub more_inside : (x : ℕ) (z : List ℕ) (f here : ℕ) → here ≡ entry z f → x < here → f < length z
-more_inside x z f here read h = elim (compare f (length z)) [ inl l ↦ l | inr l ↦ absurd (omega (arith, get_or-eq_default z 0 l)) ]
+more_inside : (x : ℕ) (z : List ℕ) (f : ℕ) → x < entry z f → f < length z
+more_inside x z f h = elim (compare f (length z)) [ inl l ↦ l | inr l ↦ absurd (omega (arith, get_or-eq_default z 0 l)) ]
 
-module _ (X : Set) (x : ℕ) (d z : List ℕ) (r : Bool) (left rest : List ℕ) (f : ℕ) (first : f ≡ lowest 256 (has left)) (more : f < 256)
-    (s : Lowering X (has left) x d z r) (made : rest ≡ words_of 4 (dropped (has left) f)) where
-  lower_skip : entry z f ≤ x → Lowering X (has rest) x d z r
+-- a turn of the loop: what the table holds here is more, or it is not
+module _ {X : Set} {x : ℕ} {d z : List ℕ} {r : Bool} {f : ℕ} {all rest : List ℕ} (next : all ≡ f ∷ rest) (before : Lowering X all x d z r) where
+  s : Lowering X (f ∷ rest) x d z r
+  s = subst (λ (l : List ℕ). Lowering X l x d z r) next before
+
+  pub lower_skip : entry z f ≤ x → Lowering X rest x d z r
   lower_skip h =
       record {
         size = s.size;
         each = s.each;
-        part = λ g k. s.part g (rest_left left f first more rest made g k).0;
-        same = λ g k. s.same g (rest_left left f first more rest made g k).0;
+        part = All-tail (λ f. Is (X f)) f rest s.part;
         kept = s.kept;
-        still = λ e g l m k. elim (left_rest left f first more rest made g l k) [
-          | inl q ↦ subst (λ (g : ℕ). entry d g ≤ x) (sym q) (omega (arith, s.same f (first_in left f first more)))
-          | inr q ↦ s.still e g l m q
-        ];
+        still = λ e all. s.still e (All-cons (λ f. entry d f ≤ x) f rest (subst (λ (z : List ℕ). entry z f ≤ x) (s.kept e) h) all);
         fell = s.fell;
       }
 
-  lower_set : x < entry z f → Lowering X (has rest) x d (set z f x) true
+  pub lower_set : x < entry z f → Lowering X rest x d (set z f x) true
   lower_set h =
       record {
         size = length-set z f x ∙ s.size;
         each = new;
-        part = λ g k. s.part g (rest_left left f first more rest made g k).0;
-        same = λ g k. let w = rest_left left f first more rest made g k in get_or-set_other z f g x 0 w.1 ∙ s.same g w.0;
+        part = All-tail (λ f. Is (X f)) f rest s.part;
         kept = λ e. absurd (true≢false e);
         still = λ e. absurd (true≢false e);
         fell = λ e. sum_lt (length d) (entry (set z f x)) (entry d) (λ g b. lowered_le X x d (set z f x) g (new g)) f (omega (arith, s.size, inside))
@@ -136,67 +126,37 @@ module _ (X : Set) (x : ℕ) (d z : List ℕ) (r : Bool) (left rest : List ℕ) 
       }
     where
       inside : f < length z
-      inside = more_inside x z f (entry z f) refl h
+      inside = more_inside x z f h
 
-      here : entry z f ≡ entry d f
-      here = s.same f (first_in left f first more)
+      -- it has not been lowered before
+      here : x < entry d f
+      here = elim (s.each f) [ inl e ↦ omega arith | inr e ↦ absurd (omega (arith, e.1)) ]
 
       new : (g : ℕ) → SameOrLowered X x d (set z f x) g
       new g =
           elim (ℕ_discrete g f) [
             | yes e ↦ subst (λ (g : ℕ). SameOrLowered X x d (set z f x) g) (sym e)
-                (inr (s.part f (first_in left f first more), get_or-set_same z f x 0 inside, omega (arith, here)))
+                (inr (All-head (λ f. Is (X f)) f rest s.part, get_or-set_same z f x 0 inside, here))
             | no e ↦ subst (λ (q : ℕ). (q ≡ entry d g) ⊎ (Is (X g) × (q ≡ x) × (x < entry d g))) (sym (get_or-set_other z f g x 0 e)) (s.each g)
           ]
-
-  -- a turn of the loop: what the table holds here is more, or it is not
-  module _ (u : List ℕ) (q : Bool) (here : ℕ) (read : here ≡ entry z f) where
-    pub lower_more : x < here → u ≡ set z f x → q ≡ true → Lowering X (has rest) x d u q
-    lower_more h e k = rw (e, k) (lower_set (omega arith))
-
-    pub lower_no_more : here ≤ x → u ≡ z → q ≡ r → Lowering X (has rest) x d u q
-    lower_no_more h e k = rw (e, k) (lower_skip (omega arith))
-
-pub lower_end : (X : Set) (x : ℕ) (d z : List ℕ) (r : Bool) (left : List ℕ) (f : ℕ) → f ≡ lowest 256 (has left) → 256 ≤ f → Lowering X (has left) x d z r
-    → Lowered X x d z r
-lower_end X x d z r left f first end s =
-    record {
-      size = s.size;
-      each = s.each;
-      kept = s.kept;
-      still = λ e g l m. s.still e g l m ((lowest_is 256 (has left)).least g (omega arith));
-      fell = s.fell;
-    }
 
 -- ---- 0 for the members of X, and the mark for the rest
 
 -- the numbers before i are written
-pub record Begun (X : Set) (mark : ℕ) (out z : List ℕ) (i : ℕ) : Type 0 where
-  pub size : length z ≡ length out
-  pub most : i ≤ length out
-  pub done : (f : ℕ) → f < i → entry z f ≡ pick (X f) 0 mark
+abbrev pub Begun : Set → ℕ → List ℕ → ℕ → Type 0
+Begun X mark z i = (f : ℕ) → f < i → entry z f ≡ pick (X f) 0 mark
 
-module _ (X : Set) (mark : ℕ) (out : List ℕ) where
-  pub begin_start : Begun X mark out out 0
-  begin_start = record { size = refl; most = omega arith; done = λ f l. absurd (omega arith) }
-
-  pub begin_end : (z : List ℕ) (i : ℕ) → Begun X mark out z i → length z ≤ i → z ≡ list_of (length out) (λ f. pick (X f) 0 mark)
-  begin_end z i s l = list_only (length out) _ z s.size (λ f b. s.done f (omega (arith, s.size)))
-
-  -- a turn of the loop: i is a member, or it is not
-  module _ (z u : List ℕ) (i : ℕ) (s : Begun X mark out z i) (more : i < length z) (r : Bool) (told : r ≡ X i) where
-    begin_next : (x : ℕ) → x ≡ pick (X i) 0 mark → u ≡ set z i x → Begun X mark out u (i + 1)
-    begin_next x e w = rw w record {
-      size = length-set z i x ∙ s.size;
-      most = omega (arith, s.size);
-      done = λ f b. elim (ℕ_discrete f i) [
+-- a turn of the loop: i is a member, or it is not
+module _ (X : Set) (mark : ℕ) (z : List ℕ) (i : ℕ) (begun : Begun X mark z i) (more : i < length z) where
+  begin_next : (x : ℕ) → x ≡ pick (X i) 0 mark → Begun X mark (set z i x) (i + 1)
+  begin_next x e f l =
+      elim (ℕ_discrete f i) [
         | yes q ↦ subst (λ (f : ℕ). entry (set z i x) f ≡ pick (X f) 0 mark) (sym q) (get_or-set_same z i x 0 more ∙ e)
-        | no q ↦ get_or-set_other z i f x 0 q ∙ s.done f (omega arith)
-      ];
-    }
+        | no q ↦ get_or-set_other z i f x 0 q ∙ begun f (omega arith)
+      ]
 
-    pub begin_member : r ≡ true → u ≡ set z i 0 → Begun X mark out u (i + 1)
-    begin_member h = begin_next 0 (sym (pick_true 0 mark (sym told ∙ h)))
+  pub begin_member : (x : ℕ) → Is (X i) → x ≡ 0 → Begun X mark (set z i x) (i + 1)
+  begin_member x h e = begin_next x (e ∙ sym (pick_true 0 mark h))
 
-    pub begin_other : r ≡ false → u ≡ set z i mark → Begun X mark out u (i + 1)
-    begin_other h = begin_next mark (sym (pick_false 0 mark (sym told ∙ h)))
+  pub begin_other : (x : ℕ) → X i ≡ false → x ≡ mark → Begun X mark (set z i x) (i + 1)
+  begin_other x h e = begin_next x (e ∙ sym (pick_false 0 mark h))

@@ -16,7 +16,7 @@ use Rattle.task.specs.Task.{Task, ignoring_clears}
 use Rattle.task.specs.Tables.{Tables, view}
 use Rattle.task.specs.Walks.{possible, taking, can_take, after, goal_holds, walk_cost, way, way_end, real_walk, way_to_goal}
 use Rattle.task.proofs.Walks.{Sub, taken_sets, taken_keeps, taken_cases, possible_true, possible_on, possible_needs, can_take_none, can_take_cons, can_take_below, can_take_first, can_take_rest, after_append, can_take_append, ignoring, walk_is_way, way_to_goal_lem}
-use Rattle.task.proofs.Checking.{Checked}
+use Rattle.task.specs.Checked.{Checked}
 use Rattle.distance.specs.Distance.{distance, goal_distance}
 use Rattle.distance.specs.Derivations.{Derived, at_first, by_step}
 use Rattle.distance.proofs.Equation.{through_le, distance_start, distance_mark, distance_step}

@@ -1,5 +1,6 @@
 use borrow.Author.Rules.{rules}
-use Rattle.distance.proofs.Members.{begin_member, begin_other, begin_end}
+use Rattle.distance.proofs.Lists.{list_only}
+use Rattle.distance.proofs.Members.{begin_member, begin_other}
 use Rattle.distance.proofs.begin_distances.Goals as goal
 use Rattle.distance.proofs.begin_distances.Goals.{then-has, else-has}
 
@@ -7,4 +8,4 @@ pub loop-f-preserved : goal.loop-f-preserved
 loop-f-preserved c = elim c.if-has.branch [ then-has w ↦ search (rules, begin_member) | else-has w ↦ search (rules, begin_other) ]
 
 pub returns : goal.returns
-returns c = begin_end _ _ _ _ _ c.loop-f.invariant c.loop-f-test.false
+returns c = search (rules, list_only)

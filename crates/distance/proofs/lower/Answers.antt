@@ -1,16 +1,12 @@
-use borrow.Author.Rules.{rules}
-use Rattle.distance.proofs.Members.{fewer, lower_more, lower_no_more, lower_end}
+use native.Mathlib.Omega.{arith}
+use Rattle.distance.proofs.Members.{lower_start, lower_set, lower_skip}
 use Rattle.distance.proofs.lower.Goals as goal
-use Rattle.distance.proofs.lower.Goals.{then-x-entry_at, else-x-entry_at}
 
-pub loop-f-smaller : goal.loop-f-smaller
-loop-f-smaller c = search (rules, fewer)
+pub loop-f-init : goal.loop-f-init
+loop-f-init c = rw (c.into_iter-f-iterator.ensures.into_iter_gives, c.members-f-items.ensures) (lower_start _ _ _)
+
+pub loop-f-preserved-then-x-from : goal.loop-f-preserved-then-x-from
+loop-f-preserved-then-x-from c = lower_set c.in-Some.ensures.steps c.loop-f.invariant (omega (arith, c.if-x-from.true))
 
 pub loop-f-preserved : goal.loop-f-preserved
-loop-f-preserved c = (
-  search rules,
-  elim c.if-x-entry_at.branch [ then-x-entry_at w ↦ search (rules, lower_more) | else-x-entry_at w ↦ search (rules, lower_no_more) ],
-)
-
-pub returns : goal.returns
-returns c = search (rules, lower_end)
+loop-f-preserved c = lower_skip c.in-Some.ensures.steps c.loop-f.invariant (omega (arith, c.if-x-from.false))

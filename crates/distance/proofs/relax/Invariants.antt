@@ -1,5 +1,4 @@
--- The table has been relaxed by the steps before the present one, which goes through all of them.
-use Prim.Native.Nat.{◌-◌, ◌≤◌}
+-- The table has been relaxed by the steps before the present one.
 use lib.ListN.{length}
 use Rattle.sets.specs.Sets.{none}
 use Rattle.sets.specs.Words.{has}
@@ -9,8 +8,5 @@ use Rattle.distance.specs.Relaxing.{Relaxed}
 use Rattle.distance.proofs.relax.Given as goal
 
 abbrev pub invariant-loop-step : goal.invariant-loop-step
-invariant-loop-step l = (l.step ≤ length l.costs)
-    × Relaxed (rows_task (length l.initial.table) (length l.costs) l.needs l.sets (has l.off.words) none) (entry l.costs) 0 l.step l.initial.table l.table l.again
-
-abbrev pub decreases-loop-step : goal.decreases-loop-step
-decreases-loop-step l = length l.costs - l.step
+invariant-loop-step l =
+    Relaxed (rows_task (length l.initial.table) (length l.costs) l.tables.needs.now l.tables.sets.now (has l.off.words) none) (entry l.costs) 0 l.step l.initial.table l.table l.again

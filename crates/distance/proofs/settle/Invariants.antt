@@ -8,7 +8,7 @@ use Rattle.distance.specs.Relaxing.{sum, Reduced}
 use Rattle.distance.proofs.settle.Given as goal
 
 abbrev pub invariant-loop-off : goal.invariant-loop-off
-invariant-loop-off l = Reduced (rows_task (length l.initial.table) (length l.costs) l.needs l.sets (has l.off.words) none) (entry l.costs) l.initial.table l.table
+invariant-loop-off l = Reduced (rows_task (length l.initial.table) (length l.costs) l.tables.needs.now l.tables.sets.now (has l.off.words) none) (entry l.costs) l.initial.table l.table
 
 abbrev pub decreases-loop-off : goal.decreases-loop-off
 decreases-loop-off l = sum (length l.initial.table) (entry l.table)
