@@ -11,7 +11,7 @@ use Rattle.task.specs.Task.{Task}
 use Rattle.task.specs.Tables.{Tables, view}
 use Rattle.task.specs.Walks.{real_walk, walk_cost, way_to_goal}
 use Rattle.task.proofs.Walks.{walk_is_way}
-use Rattle.task.proofs.Checking.{Checked}
+use Rattle.task.specs.Checked.{Checked}
 use Rattle.reach.specs.Reach.{takes}
 use Rattle.reach.proofs.Ways.{goal_is}
 use Rattle.distance.specs.Distance.{entry, goal_distance}

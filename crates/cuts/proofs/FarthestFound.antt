@@ -1,26 +1,27 @@
 -- The loop that looks for the farthest member, lowest first: what it has found is the lowest of the farthest among the members that are not left. A member
 -- that is as far as one found before does not replace it.
-use Prim.Native.Nat.{ℕ, ◌+◌, ◌≤◌, ◌<◌}
-use mathlib.Core.Path.{◌≡◌, sym, ap, ◌∙◌, subst, fun_ext}
+use Prim.Native.Nat.{ℕ, ◌≤◌, ◌<◌}
+use mathlib.Core.Path.{◌≡◌, refl, sym, ap, ◌∙◌, subst, fun_ext}
 use mathlib.Core.Bool.{false}
-use mathlib.Core.List.{List}
+use mathlib.Core.List.{List, [], ◌∷◌}
 use mathlib.Core.Logic.{◌⊎◌, inl, inr}
 use native.Mathlib.Omega.{arith}
-use lib.ListN.{length, set}
+use lib.ListN.{length}
 use Rattle.sets.specs.Tests.{Is}
-use Rattle.sets.specs.Sets.{Set, dropped, lowest, count}
+use Rattle.sets.specs.Sets.{Set, dropped, lowest, members}
 use Rattle.sets.specs.Words.{has, words_of, row}
-use Rattle.sets.proofs.Tests.{fails, not_both_ways, equal_tests, compare}
+use Rattle.sets.proofs.Tests.{fails, equal_tests, compare}
 use Rattle.sets.proofs.Sets.{lowest_is}
 use Rattle.sets.proofs.Words.{has_made, made_has, row_lt}
-use Rattle.sets.proofs.Listing.{listing_below, listing_less}
-use Rattle.task.specs.Rows.{RowsBelow}
+use Rattle.sets.proofs.Visiting.{visits_member, turn_lowest, turn_rest, turn_none}
+use Rattle.task.specs.Tables.{Tables}
+use Rattle.task.specs.Checked.{Checked}
 use Rattle.distance.specs.Distance.{entry}
+use Rattle.distance.proofs.Lists.{list_only}
 use Rattle.distance.proofs.Members.{first_in, rest_left, left_rest}
 use Rattle.cuts.specs.Cut.{lowest_farthest}
 use Rattle.cuts.specs.Workers.{chosen_from}
-use Rattle.cuts.proofs.Choice.{lowest_is_farthest, lowest_farthest_only, lowest_farthest_none}
-use Rattle.cuts.proofs.WrittenInPlace.{Written, written_next, written_end}
+use Rattle.cuts.proofs.Choice.{lowest_farthest_only, lowest_farthest_none}
 
 -- what is left of X has not been looked at yet; `most` is the distance of what was found, which is n as long as nothing was
 pub record Looked (n : ℕ) (X L : Set) (d : ℕ → ℕ) (found most : ℕ) : Type 0 where
@@ -30,26 +31,11 @@ pub record Looked (n : ℕ) (X L : Set) (d : ℕ → ℕ) (found most : ℕ) : T
   pub top : (g : ℕ) → Is (X g) → L g ≡ false → (found < n) × (d g ≤ most)
   pub first : found < n → (g : ℕ) → g < found → Is (X g) → d g < most
 
-pub looked_start : (n : ℕ) (X : Set) (d : ℕ → ℕ) → Looked n X X d n 0
-looked_start n X d =
-    record {
-      bound = omega arith;
-      part = λ g x. x;
-      member = λ l. absurd (omega arith);
-      top = λ g x out. not_both_ways x out;
-      first = λ l. absurd (omega arith);
-    }
-
--- each turn leaves one member fewer
-pub looked_less : (left rest : List ℕ) (f : ℕ) → f ≡ lowest 256 (has left) → ¬ (f ≡ 256) → rest ≡ words_of 4 (dropped (has left) f)
-    → count 256 (has rest) < count 256 (has left)
-looked_less left rest f low some made = listing_less 4 left rest f low some made
-
-module _ (n : ℕ) (X : Set) (d : ℕ → ℕ) (few : n ≤ 256) (below_n : (f : ℕ) → Is (X f) → f < n) (left : List ℕ) (f found most : ℕ)
-    (s : Looked n X (has left) d found most) (low : f ≡ lowest 256 (has left)) where
+module _ (n : ℕ) (X : Set) (d : ℕ → ℕ) (few : n ≤ 256) (below_n : (f : ℕ) → Is (X f) → f < n) (left : List ℕ) (found most : ℕ)
+    (s : Looked n X (has left) d found most) where
   -- nothing is left
-  pub looked_end : f ≡ 256 → found ≡ lowest_farthest n X d
-  looked_end end =
+  pub looked_end : members 256 (has left) ≡ [] → found ≡ lowest_farthest n X d
+  looked_end none =
       elim (compare found n) [
         | inl l ↦
             let m = s.member l in
@@ -60,12 +46,19 @@ module _ (n : ℕ) (X : Set) (d : ℕ → ℕ) (few : n ≤ 256) (below_n : (f :
       ]
     where
       out : (g : ℕ) → g < n → has left g ≡ false
-      out g k = (lowest_is 256 (has left)).least g (omega arith)
+      out g k = (lowest_is 256 (has left)).least g (omega (arith, turn_none 4 left none))
 
   -- a turn of the loop: f is the first member, is farther than those before, or is not
-  module _ (some : ¬ (f ≡ 256)) (rest : List ℕ) (made : rest ≡ words_of 4 (dropped (has left) f)) (here next more : ℕ) (read : here ≡ d f) where
+  module _ (f : ℕ) (rest : List ℕ) (turn : members 256 (has left) ≡ f ∷ members 256 (has rest)) (whole : rest ≡ words_of 4 (has rest))
+      (here : ℕ) (read : here ≡ d f) where
+    low : f ≡ lowest 256 (has left)
+    low = turn_lowest 4 left rest f turn
+
+    made : rest ≡ words_of 4 (dropped (has left) f)
+    made = turn_rest 4 left rest f turn whole
+
     inside : f < 256
-    inside = omega (arith, listing_below 4 left left f low some)
+    inside = (visits_member 256 (has left) [] (members 256 (has left)) refl turn).0
 
     member_here : Is (X f)
     member_here = s.part f (first_in left f low inside)
@@ -77,8 +70,8 @@ module _ (n : ℕ) (X : Set) (d : ℕ → ℕ) (few : n ≤ 256) (below_n : (f :
     was_out : (g : ℕ) → Is (X g) → has rest g ≡ false → (g ≡ f) ⊎ (has left g ≡ false)
     was_out g x out = left_rest left f low inside rest made g (omega (arith, below_n g x)) out
 
-    replaced : (found ≡ n) ⊎ (most < here) → next ≡ f → more ≡ here → Looked n X (has rest) d next more
-    replaced why e q = rw (e, q) record {
+    pub looked_farther : (found ≡ n) ⊎ (most < here) → Looked n X (has rest) d f here
+    looked_farther why = record {
       bound = omega (arith, below_n f member_here);
       part = still_part;
       member = λ l. (member_here, read);
@@ -86,20 +79,14 @@ module _ (n : ℕ) (X : Set) (d : ℕ → ℕ) (few : n ≤ 256) (below_n : (f :
         | inl p ↦ (below_n f member_here, subst (λ (g : ℕ). d g ≤ here) (sym p) (omega arith))
         | inr p ↦ (below_n f member_here, omega (arith, nearer g x p))
       ];
-      first = λ l g k x. nearer g x ((lowest_is 256 (has left)).least g (omega arith));
+      first = λ l g k x. nearer g x ((lowest_is 256 (has left)).least g (omega (arith, low)));
     }
       where
         nearer : (g : ℕ) → Is (X g) → has left g ≡ false → d g < here
         nearer g x out = elim why [ inl p ↦ absurd (omega (arith, (s.top g x out).0)) | inr p ↦ omega (arith, (s.top g x out).1) ]
 
-    pub looked_first : found ≡ n → next ≡ f → more ≡ here → Looked n X (has rest) d next more
-    looked_first h = replaced (inl h)
-
-    pub looked_farther : most < here → next ≡ f → more ≡ here → Looked n X (has rest) d next more
-    looked_farther h = replaced (inr h)
-
-    pub looked_nearer : ¬ (found ≡ n) → here ≤ most → next ≡ found → more ≡ most → Looked n X (has rest) d next more
-    looked_nearer h k e q = rw (e, q) record {
+    pub looked_nearer : ¬ (found ≡ n) → here ≤ most → Looked n X (has rest) d found most
+    looked_nearer h k = record {
       bound = s.bound;
       part = still_part;
       member = s.member;
@@ -113,31 +100,24 @@ module _ (n : ℕ) (X : Set) (d : ℕ → ℕ) (few : n ≤ 256) (below_n : (f :
 -- ---- the choices of all steps
 
 -- what the loop writes for a step
-abbrev pub choice_of : ℕ → List ℕ → List ℕ → ℕ → ℕ
-choice_of n needs table s = lowest_farthest n (has (row 4 s needs)) (entry table)
+abbrev pub choice_of : Tables → List ℕ → ℕ → ℕ
+choice_of t table s = lowest_farthest t.facts (has (row 4 s t.needs)) (entry table)
 
--- a choice is n at most
-pub choice_most : (n : ℕ) (X : Set) (d : ℕ → ℕ) (r : ℕ) → r ≡ lowest_farthest n X d → r ≤ n
-choice_most n X d r e = elim (lowest_is_farthest n X d) [ inl h ↦ omega (arith, h.0) | inr h ↦ omega (arith, h.0) ]
-
-module _ (n : ℕ) (needs : List ℕ) (s : ℕ) (read : List ℕ) (made : read ≡ words_of 4 (has (row 4 s needs))) where
-  -- the words read hold only facts below n
-  pub read_below : RowsBelow n needs → (f : ℕ) → Is (has read f) → f < n
-  read_below below_n f x = below_n s f (made_has 4 read (has (row 4 s needs)) made f x)
+module _ (t : Tables) (valid : Checked t) (s : ℕ) (read : List ℕ) (made : read ≡ words_of 4 (has (row 4 s t.needs))) where
+  -- the words read hold only facts of the task
+  pub read_below : (f : ℕ) → Is (has read f) → f < t.facts
+  read_below f x = valid.needs_facts s f (made_has 4 read (has (row 4 s t.needs)) made f x)
 
   -- and are the row's
-  read_row : has read ≡ has (row 4 s needs)
+  read_row : has read ≡ has (row 4 s t.needs)
   read_row =
-      fun_ext (λ f. equal_tests (has read f) (has (row 4 s needs) f) (made_has 4 read (has (row 4 s needs)) made f)
-      (λ x. has_made 4 read (has (row 4 s needs)) made f (row_lt 4 s needs f x) ∙ x))
+      fun_ext (λ f. equal_tests (has read f) (has (row 4 s t.needs) f) (made_has 4 read (has (row 4 s t.needs)) made f)
+      (λ x. has_made 4 read (has (row 4 s t.needs)) made f (row_lt 4 s t.needs f x) ∙ x))
 
-  -- a turn of the loop
-  pub chosen_next : (table old z u : List ℕ) (r : ℕ) → Written (choice_of n needs table) old z s → s < length z
-      → r ≡ lowest_farthest n (has read) (entry table) → u ≡ set z s r → Written (choice_of n needs table) old u (s + 1)
-  chosen_next table old z u r w more e =
-      written_next (choice_of n needs table) old z u s w more r (e ∙ ap (λ (X : Set). lowest_farthest n X (entry table)) read_row)
+  -- so the choice among them is the step's
+  pub choice_read : (table : List ℕ) (r : ℕ) → r ≡ lowest_farthest t.facts (has read) (entry table) → r ≡ choice_of t table s
+  choice_read table r e = e ∙ ap (λ (X : Set). lowest_farthest t.facts X (entry table)) read_row
 
-pub chosen_end : (n : ℕ) (needs table old z : List ℕ) (i : ℕ) → Written (choice_of n needs table) old z i → length z ≤ i
-    → z ≡ chosen_from n (length old) needs table
+pub choices_written : (t : Tables) (table z : List ℕ) → length z ≡ t.steps → ((s : ℕ) → s < length z → entry z s ≡ choice_of t table s) → z ≡ chosen_from t table
 unfolding chosen_from
-chosen_end n needs table old z i w l = written_end (choice_of n needs table) old z i w l
+choices_written t table z size done = list_only t.steps (choice_of t table) z size (λ s l. done s (omega arith))

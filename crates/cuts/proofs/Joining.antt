@@ -1,12 +1,10 @@
 -- The workers' definitions joined to the mathematics: what the tables give are the choices, zone, region and cut of the task of the rows, because "begin"
 -- can be kept apart from the facts and no row has a fact past the last.
-use Prim.Native.Nat.{ℕ, zero, suc, ◌≤◌, ◌<◌}
+use Prim.Native.Nat.{ℕ, zero, suc, ◌<◌}
 use mathlib.Core.Path.{◌≡◌, refl, sym, ap, ◌∙◌, subst}
-use mathlib.Core.Bool.{Bool}
 use mathlib.Core.List.{List}
 use mathlib.Core.Logic.{inl, inr}
 use native.Mathlib.Omega.{arith}
-use lib.ListN.{length}
 use Rattle.sets.specs.Tests.{Is, no, both, either, below, same}
 use Rattle.sets.specs.Sets.{Set, any}
 use Rattle.sets.specs.Words.{has, words_of, row}
@@ -15,15 +13,15 @@ use Rattle.sets.proofs.Sets.{any_true, any_at, within_at, within_true}
 use Rattle.sets.proofs.Words.{has_of}
 use Rattle.task.specs.Task.{Task}
 use Rattle.task.specs.Limits.{limits}
-use Rattle.task.specs.Rows.{RowsBelow}
+use Rattle.task.specs.Tables.{Tables, view}
+use Rattle.task.specs.Checked.{Checked}
 use Rattle.task.specs.Walks.{possible}
 use Rattle.reach.specs.Least.{least}
 use Rattle.reach.specs.Reach.{reach}
 use Rattle.reach.proofs.Least.{Kept, least_holds, least_closed, least_within}
 use Rattle.distance.specs.Distance.{entry, distance, distances, goal_distance, least as least_of}
 use Rattle.cuts.specs.Cut.{lowest_farthest, counted, arc_into, zone, region, cut, chosen_needs, goal_choice}
-use Rattle.cuts.specs.Workers.{round_task, chosen_from, counted_from, sets_into, tail_in, zone_from, region_from, cut_from}
-use Rattle.cuts.specs.Making.{cut_before}
+use Rattle.cuts.specs.Workers.{chosen_from, counted_from, sets_into, tail_in, zone_from, region_from, cut_from, cut_before}
 use Rattle.cuts.proofs.Choice.{lowest_is_farthest}
 use Rattle.cuts.proofs.Cut.{Chosen, cut_below, zone_goal, goal_chosen, region_start}
 use Rattle.cuts.proofs.Round.{choices_right}
@@ -42,19 +40,25 @@ least_same mark n X Y x h = go n (λ i l. h i l)
 
 -- ---- the tables of a round
 
-module _ (n m : ℕ) (needs sets : List ℕ) (off start goal : Set) (few : n ≤ 256) (needs_below : RowsBelow n needs) (sets_below : RowsBelow n sets) where
+module _ (t : Tables) (valid : Checked t) where
   abbrev T : Task
-  T = round_task n m needs sets off start goal
+  T = view t
+
+  abbrev n : ℕ
+  n = t.facts
+
+  abbrev m : ℕ
+  m = t.steps
 
   -- the chosen needs
   pub chosen_joined : (costs table : List ℕ) → table ≡ distances T (entry costs) limits.mark
-      → chosen_from n m needs table ≡ chosen_needs lowest_farthest limits.mark T (entry costs)
+      → chosen_from t table ≡ chosen_needs lowest_farthest limits.mark T (entry costs)
   unfolding chosen_from chosen_needs
   chosen_joined costs table e = rw e
 
   -- the goal's choice
   pub goal_joined : (costs table : List ℕ) → table ≡ distances T (entry costs) limits.mark
-      → lowest_farthest n goal (entry table) ≡ goal_choice lowest_farthest limits.mark T (entry costs)
+      → lowest_farthest t.facts (has t.goal) (entry table) ≡ goal_choice lowest_farthest limits.mark T (entry costs)
   unfolding goal_choice
   goal_joined costs table e = rw e
 
@@ -66,31 +70,31 @@ module _ (n m : ℕ) (needs sets : List ℕ) (off start goal : Set) (few : n ≤
 
   -- the steps that count, from any set that is as reach below n
   pub counted_joined : (reached : Set) → ((f : ℕ) → f < n → reached f ≡ reach T f) → (s : ℕ)
-      → counted_from m needs off reached s ≡ both (below s m) (counted T s)
-  unfolding counted_from counted possible
+      → counted_from t reached s ≡ both (below s m) (counted T s)
+  unfolding counted_from counted possible both
   counted_joined reached same_reach s =
-      ap (λ (p : Bool). both (below s m) (both (no (off s)) p))
+      ap (both (below s m))
       (equal_tests _ _
       (λ h. within_true n _ _ (λ f l x. sym (same_reach f l) ∙ within_at 256 _ _ h f (omega arith) x))
-      (λ h. within_true 256 _ _ (λ f l x. let b = needs_below s f x in same_reach f b ∙ within_at n _ _ h f b x)))
+      (λ h. within_true 256 _ _ (λ f l x. let b = valid.needs_facts s f x in same_reach f b ∙ within_at n _ _ h f b x)))
 
   -- a step with an arc into X sets a member of X, and is counted
-  pub arc_joined : (X Y : Set) → ((f : ℕ) → f < n → X f ≡ Y f) → (s : ℕ) → arc_into T X s ≡ both (counted T s) (sets_into sets Y s)
+  pub arc_joined : (X Y : Set) → ((f : ℕ) → f < n → X f ≡ Y f) → (s : ℕ) → arc_into T X s ≡ both (counted T s) (sets_into t Y s)
   unfolding arc_into sets_into
   arc_joined X Y e s =
       ap (both (counted T s))
       (equal_tests _ _
       (λ h. let r = any_at n _ h in
-      let a = both_l (has (row 4 s sets) r.0) _ r.2 in
-      any_true 256 _ r.0 (omega (arith, r.1)) (both_true (has (row 4 s sets) r.0) _ a (sym (e r.0 r.1) ∙ both_r (has (row 4 s sets) r.0) _ r.2)))
+      let a = both_l (has (row 4 s t.sets) r.0) _ r.2 in
+      any_true 256 _ r.0 (omega (arith, r.1)) (both_true (has (row 4 s t.sets) r.0) _ a (sym (e r.0 r.1) ∙ both_r (has (row 4 s t.sets) r.0) _ r.2)))
       (λ h. let r = any_at 256 _ h in
-      let a = both_l (has (row 4 s sets) r.0) _ r.2 in
-      let b = sets_below s r.0 a in
-      any_true n _ r.0 b (both_true (has (row 4 s sets) r.0) _ a (e r.0 b ∙ both_r (has (row 4 s sets) r.0) _ r.2))))
+      let a = both_l (has (row 4 s t.sets) r.0) _ r.2 in
+      let b = valid.sets_facts s r.0 a in
+      any_true n _ r.0 b (both_true (has (row 4 s t.sets) r.0) _ a (e r.0 b ∙ both_r (has (row 4 s t.sets) r.0) _ r.2))))
 
   -- ---- a round: the costs are m numbers, the choices are right and the goal's distance is above 0
 
-  module _ (costs chosen : List ℕ) (choice : ℕ) (size : length costs ≡ m) (C : Set) (c_is : (s : ℕ) → s < m → C s ≡ counted T s)
+  module _ (costs chosen : List ℕ) (choice : ℕ) (C : Set) (c_is : (s : ℕ) → s < m → C s ≡ counted T s)
       (right : Chosen T (distance T (entry costs) limits.mark) (entry chosen) choice) (away : 0 < goal_distance T (entry costs) limits.mark) where
     abbrev Z : Set
     Z = zone T (entry chosen) (entry costs) choice
@@ -99,18 +103,18 @@ module _ (n m : ℕ) (needs sets : List ℕ) (off start goal : Set) (few : n ≤
     B = region T (entry chosen) Z
 
     abbrev zone_rule : Set → Set
-    zone_rule X u = any (length costs) (λ s. both (C s) (both (same (entry costs s) 0) (both (same (entry chosen s) u) (sets_into sets X s))))
+    zone_rule X u = any m (λ s. both (C s) (both (same (entry costs s) 0) (both (same (entry chosen s) u) (sets_into t X s))))
 
     rule_true : (X : Set) (s : ℕ) → s < m → Is (arc_into T X s) → entry costs s ≡ 0 → Is (zone_rule X (entry chosen s))
     rule_true X s l arc e =
         let h = sym (arc_joined X X (λ f k. refl) s) ∙ arc in
-        any_true (length costs) _ s (omega arith)
+        any_true m _ s (omega arith)
         (both_true (C s) _ (c_is s l ∙ both_l (counted T s) _ h)
         (both_true (same (entry costs s) 0) _ (same_true _ _ e) (both_true (same (entry chosen s) (entry chosen s)) _ (same_true _ _ refl) (both_r (counted T s) _ h))))
 
     rule_at : (X : Set) (u : ℕ) → Is (zone_rule X u) → (s : ℕ) × (s < m) × Is (arc_into T X s) × (entry costs s ≡ 0) × (entry chosen s ≡ u)
     rule_at X u h =
-        let r = any_at (length costs) _ h in
+        let r = any_at m _ h in
         let s = r.0 in
         let l : s < m = omega (arith, r.1) in
         let a = both_l (C s) _ r.2 in
@@ -124,7 +128,7 @@ module _ (n m : ℕ) (needs sets : List ℕ) (off start goal : Set) (few : n ≤
         )
 
     -- the zone's facts
-    pub zone_joined : (f : ℕ) → f < n → zone_from n sets costs C chosen choice f ≡ Z f
+    pub zone_joined : (f : ℕ) → f < n → zone_from t costs C chosen choice f ≡ Z f
     unfolding zone_from
     zone_joined =
         zone_facts T (entry costs) (entry chosen) choice Y
@@ -144,7 +148,7 @@ module _ (n m : ℕ) (needs sets : List ℕ) (off start goal : Set) (few : n ≤
     -- ---- the region, from a set that is as the zone below n
 
     -- the step's chosen need is "begin" or a fact
-    tail_cases : (X : Set) (s : ℕ) → s < m → Is (counted T s) → Is (tail_in n chosen X s) → TailIn T (entry costs) (entry chosen) choice X s
+    tail_cases : (X : Set) (s : ℕ) → s < m → Is (counted T s) → Is (tail_in t chosen X s) → TailIn T (entry costs) (entry chosen) choice X s
     unfolding tail_in
     tail_cases X s l counts h =
         elim (either_cases (no (below (entry chosen s) n)) _ h) [
@@ -152,7 +156,7 @@ module _ (n m : ℕ) (needs sets : List ℕ) (off start goal : Set) (few : n ≤
           | inr b ↦ inr b
         ]
 
-    tail_true : (X Y : Set) → ((f : ℕ) → f < n → X f ≡ Y f) → (s : ℕ) → s < m → Is (counted T s) → TailIn T (entry costs) (entry chosen) choice X s → Is (tail_in n chosen Y s)
+    tail_true : (X Y : Set) → ((f : ℕ) → f < n → X f ≡ Y f) → (s : ℕ) → s < m → Is (counted T s) → TailIn T (entry costs) (entry chosen) choice X s → Is (tail_in t chosen Y s)
     unfolding tail_in
     tail_true X Y e s l counts h =
         elim (right.by_step s l counts) [
@@ -165,21 +169,21 @@ module _ (n m : ℕ) (needs sets : List ℕ) (off start goal : Set) (few : n ≤
 
     module _ (Zf : Set) (zf_is : (f : ℕ) → f < n → Zf f ≡ Z f) where
       abbrev region_rule : Set → Set
-      region_rule X f = both (no (Zf f)) (any m (λ s. both (C s) (both (tail_in n chosen X s) (has (row 4 s sets) f))))
+      region_rule X f = both (no (Zf f)) (any m (λ s. both (C s) (both (tail_in t chosen X s) (has (row 4 s t.sets) f))))
 
       -- the region's facts
-      pub region_joined : (f : ℕ) → f < n → region_from n m sets C chosen Zf start f ≡ B f
+      pub region_joined : (f : ℕ) → f < n → region_from t C chosen Zf f ≡ B f
       unfolding region_from
       region_joined =
-          region_facts T (entry costs) (entry chosen) choice limits.mark right away Y (least_holds n region_rule start)
-          (least_within n region_rule start (λ f. Is (B f)) keeps (λ f l h. region_start T (entry costs) (entry chosen) limits.mark choice right away f l h))
+          region_facts T (entry costs) (entry chosen) choice limits.mark right away Y (least_holds n region_rule (has t.start))
+          (least_within n region_rule (has t.start) (λ f. Is (B f)) keeps (λ f l h. region_start T (entry costs) (entry chosen) limits.mark choice right away f l h))
           (λ s f l k counts tail set out.
-          least_closed n region_rule start f k
+          least_closed n region_rule (has t.start) f k
           (both_true (no (Zf f)) _ (no_true (Zf f) (zf_is f k ∙ out))
-          (any_true m _ s l (both_true (C s) _ (c_is s l ∙ counts) (both_true (tail_in n chosen Y s) _ (tail_true Y Y (λ f l. refl) s l counts tail) set)))))
+          (any_true m _ s l (both_true (C s) _ (c_is s l ∙ counts) (both_true (tail_in t chosen Y s) _ (tail_true Y Y (λ f l. refl) s l counts tail) set)))))
         where
           Y : Set
-          Y = (least n region_rule start).set
+          Y = (least n region_rule (has t.start)).set
 
           keeps : Kept n region_rule (λ f. Is (B f))
           keeps X inside f k h =
@@ -188,19 +192,19 @@ module _ (n m : ℕ) (needs sets : List ℕ) (off start goal : Set) (few : n ≤
               let counts = sym (c_is s r.1) ∙ both_l (C s) _ r.2 in
               let e = both_r (C s) _ r.2 in
               region_grows T (entry costs) (entry chosen) choice limits.mark right away X inside s f r.1 k counts
-              (tail_cases X s r.1 counts (both_l (tail_in n chosen X s) _ e)) (both_r (tail_in n chosen X s) _ e) (sym (zf_is f k) ∙ no_false (Zf f) (both_l (no (Zf f)) _ h))
+              (tail_cases X s r.1 counts (both_l (tail_in t chosen X s) _ e)) (both_r (tail_in t chosen X s) _ e) (sym (zf_is f k) ∙ no_false (Zf f) (both_l (no (Zf f)) _ h))
 
       -- the cut, from a set that is as the region below n
       module _ (Bf : Set) (bf_is : (f : ℕ) → f < n → Bf f ≡ B f) where
-        cut_here : (s : ℕ) → s < m → cut_from n m sets C chosen Zf Bf s ≡ cut T (entry chosen) Z s
+        cut_here : (s : ℕ) → s < m → cut_from t C chosen Zf Bf s ≡ cut T (entry chosen) Z s
         unfolding cut_from
         cut_here s l =
             equal_tests _ _
             (λ h.
             let counts = sym (c_is s l) ∙ both_r (below s m) _ (both_l (both (below s m) (C s)) _ h) in
             let e = both_r (both (below s m) (C s)) _ h in
-            facts ∙ both_true (arc_into T Zf s) _ (arc_joined Zf Zf (λ f k. refl) s ∙ both_true (counted T s) _ counts (both_l (sets_into sets Zf s) _ e))
-            (elim (tail_cases Bf s l counts (both_r (sets_into sets Zf s) _ e)) [
+            facts ∙ both_true (arc_into T Zf s) _ (arc_joined Zf Zf (λ f k. refl) s ∙ both_true (counted T s) _ counts (both_l (sets_into t Zf s) _ e))
+            (elim (tail_cases Bf s l counts (both_r (sets_into t Zf s) _ e)) [
               | inl a ↦ either_l (same (entry chosen s) n) _ (same_true _ _ a)
               | inr b ↦ either_r (same (entry chosen s) n) _ b
             ]))
@@ -209,14 +213,14 @@ module _ (n m : ℕ) (needs sets : List ℕ) (off start goal : Set) (few : n ≤
             let arc = sym (arc_joined Zf Zf (λ f k. refl) s) ∙ both_l (arc_into T Zf s) _ g in
             let counts = both_l (counted T s) _ arc in
             both_true (both (below s m) (C s)) _ (both_true (below s m) _ (below_true s m l) (c_is s l ∙ counts))
-            (both_true (sets_into sets Zf s) _ (both_r (counted T s) _ arc)
+            (both_true (sets_into t Zf s) _ (both_r (counted T s) _ arc)
             (tail_true Bf Bf (λ f k. refl) s l counts
             (elim (either_cases (same (entry chosen s) n) (Bf (entry chosen s)) (both_r (arc_into T Zf s) _ g)) [ inl a ↦ inl (same_at _ _ a) | inr b ↦ inr b ]))))
           where
             facts : cut T (entry chosen) Z s ≡ both (arc_into T Zf s) (either (same (entry chosen s) n) (Bf (entry chosen s)))
             facts = cut_facts T (entry costs) (entry chosen) choice limits.mark right away Zf Bf zf_is bf_is s l
 
-        pub cut_joined : (s : ℕ) → cut_from n m sets C chosen Zf Bf s ≡ cut T (entry chosen) Z s
+        pub cut_joined : (s : ℕ) → cut_from t C chosen Zf Bf s ≡ cut T (entry chosen) Z s
         unfolding cut_from
         cut_joined s =
             elim (compare s m) [
@@ -227,13 +231,12 @@ module _ (n m : ℕ) (needs sets : List ℕ) (off start goal : Set) (few : n ≤
             ]
 
     -- the cut through the words of the zone and of the region
-    pub before_joined : length chosen ≡ m → (s : ℕ) → cut_before n sets costs C chosen choice start s ≡ cut T (entry chosen) Z s
+    pub before_joined : (s : ℕ) → cut_before t costs C chosen choice s ≡ cut T (entry chosen) Z s
     unfolding cut_before
-    before_joined many s =
-        rw many
-        (cut_joined (has (words_of 4 (zone_from n sets costs C chosen choice))) zone_read
-        (has (words_of 4 (region_from n m sets C chosen (has (words_of 4 (zone_from n sets costs C chosen choice))) start)))
-        (λ f l. has_of 4 _ f (omega arith) ∙ region_joined (has (words_of 4 (zone_from n sets costs C chosen choice))) zone_read f l) s)
+    before_joined s =
+        (cut_joined (has (words_of 4 (zone_from t costs C chosen choice))) zone_read
+        (has (words_of 4 (region_from t C chosen (has (words_of 4 (zone_from t costs C chosen choice))))))
+        (λ f l. has_of 4 _ f (omega arith) ∙ region_joined (has (words_of 4 (zone_from t costs C chosen choice))) zone_read f l) s)
       where
-        zone_read : (f : ℕ) → f < n → has (words_of 4 (zone_from n sets costs C chosen choice)) f ≡ Z f
+        zone_read : (f : ℕ) → f < n → has (words_of 4 (zone_from t costs C chosen choice)) f ≡ Z f
         zone_read f l = has_of 4 _ f (omega arith) ∙ zone_joined f l

@@ -8,12 +8,12 @@ pub mod RoundByRound
 pub mod Joining
 pub mod OneRound
 pub mod RoundsMade
-pub mod CutsAnswered
 pub mod Begun
 pub mod Examples
-pub mod WrittenInPlace
 pub mod CostsTaken
-pub mod StepsCounted
+pub mod StepsPassed
 pub mod FarthestFound
 pub mod GrownSets
 pub mod FloorDistance
+pub mod Due
+pub mod CutsAnswered

@@ -3,3 +3,4 @@ pub mod Rounds
 pub mod Workers
 pub mod Answer
 pub mod Making
+pub mod Places

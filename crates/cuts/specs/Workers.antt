@@ -1,101 +1,108 @@
 -- What the private workers' contracts speak of: the choices, zone, region and cut of a round as the tables give them, with "begin" apart from the facts.
 -- A step is counted if it is in a given set; its chosen need is a number of a list, and n or more stands for "begin".
-use Rattle.std.specs.Prelude.{ℕ, ◌-◌, ◌<◌, ◌≡◌, Bool, List, length}
+use Rattle.std.specs.Prelude.{ℕ, ◌-◌, ◌<◌, ◌≤◌, ◌≡◌, Bool, List, length}
 use Rattle.sets.specs.Tests.{Is, no, both, either, below, same, pick}
-use Rattle.sets.specs.Sets.{Set, none, removed, any, within}
+use Rattle.sets.specs.Sets.{Set, up_to, met, removed, any, within}
 use Rattle.sets.specs.Words.{has, words_of, row}
-use Rattle.task.specs.Task.{Task}
+use Rattle.task.specs.Tables.{Tables}
+use Rattle.reach.specs.Closing.{Facts}
 use Rattle.reach.specs.Least.{least}
 use Rattle.distance.specs.Distance.{list_of, entry}
 use Rattle.cuts.specs.Cut.{lowest_farthest}
 
--- rows of needs and sets, the steps that are off, what holds at first, and the goal: all that a round looks at beside the costs
-abbrev pub round_task : ℕ → ℕ → List ℕ → List ℕ → Set → Set → Set → Task
-round_task facts steps needs sets off start goal = record {
-  facts = facts;
-  steps = steps;
-  needs = λ s. has (row 4 s needs);
-  sets = λ s. has (row 4 s sets);
-  clears = λ s. none;
-  cost = λ s. 0;
-  start = start;
-  goal = goal;
-  on = λ s. no (off s);
-}
+-- the chosen needs of the steps, given a table of distances
+unfoldable pub chosen_from : Tables → List ℕ → List ℕ
+chosen_from t table = list_of t.steps (λ s. lowest_farthest t.facts (has (row 4 s t.needs)) (entry table))
 
--- the chosen needs of m steps, given a table of distances
-unfoldable pub chosen_from : ℕ → ℕ → List ℕ → List ℕ → List ℕ
-chosen_from n m needs table = list_of m (λ s. lowest_farthest n (has (row 4 s needs)) (entry table))
-
--- the steps that are not dropped: each is on and all its needs are reached
-unfoldable pub counted_from : ℕ → List ℕ → Set → Set → Set
-counted_from m needs off reached s = both (below s m) (both (no (off s)) (within 256 (has (row 4 s needs)) reached))
+-- the steps that are not dropped: all their needs are reached
+unfoldable pub counted_from : Tables → Set → Set
+counted_from t reached s = both (below s t.steps) (within 256 (has (row 4 s t.needs)) reached)
 
 -- step s sets a member of X
-unfoldable pub sets_into : List ℕ → Set → ℕ → Bool
-sets_into sets X s = any 256 (λ f. both (has (row 4 s sets) f) (X f))
+unfoldable pub sets_into : Tables → Set → ℕ → Bool
+sets_into t X s = any 256 (λ f. both (has (row 4 s t.sets) f) (X f))
 
 -- the chosen need of step s is "begin" or in X
-unfoldable pub tail_in : ℕ → List ℕ → Set → ℕ → Bool
-tail_in n chosen X s = either (no (below (entry chosen s) n)) (X (entry chosen s))
+unfoldable pub tail_in : Tables → List ℕ → Set → ℕ → Bool
+tail_in t chosen X s = either (no (below (entry chosen s) t.facts)) (X (entry chosen s))
 
 -- the facts of the zone: the goal's choice, and the chosen need of every counted step that costs nothing and sets a fact of the zone
-unfoldable pub zone_from : ℕ → List ℕ → List ℕ → Set → List ℕ → ℕ → Set
-zone_from n sets costs counted chosen goal =
-    (least n
-    (λ X u. any (length costs) (λ s. both (counted s) (both (same (entry costs s) 0) (both (same (entry chosen s) u) (sets_into sets X s)))))
+unfoldable pub zone_from : Tables → List ℕ → Set → List ℕ → ℕ → Set
+zone_from t costs counted chosen goal =
+    (least t.facts
+    (λ X u. any t.steps (λ s. both (counted s) (both (same (entry costs s) 0) (both (same (entry chosen s) u) (sets_into t X s)))))
     (λ u. same u goal)).set
 
 -- the facts of the region: the start, and every fact outside the zone that a counted step sets whose chosen need is "begin" or in the region
-unfoldable pub region_from : ℕ → ℕ → List ℕ → Set → List ℕ → Set → Set → Set
-region_from n m sets counted chosen zone start =
-    (least n
-    (λ X f. both (no (zone f)) (any m (λ s. both (counted s) (both (tail_in n chosen X s) (has (row 4 s sets) f)))))
-    start).set
+unfoldable pub region_from : Tables → Set → List ℕ → Set → Set
+region_from t counted chosen zone =
+    (least t.facts
+    (λ X f. both (no (zone f)) (any t.steps (λ s. both (counted s) (both (tail_in t chosen X s) (has (row 4 s t.sets) f)))))
+    (has t.start)).set
 
 -- the cut: the counted steps that set a fact of the zone and whose chosen need is "begin" or in the region
-unfoldable pub cut_from : ℕ → ℕ → List ℕ → Set → List ℕ → Set → Set → Set
-cut_from n m sets counted chosen zone region s =
-    both (both (below s m) (counted s)) (both (sets_into sets zone s) (tail_in n chosen region s))
+unfoldable pub cut_from : Tables → Set → List ℕ → Set → Set → Set
+cut_from t counted chosen zone region s =
+    both (both (below s t.steps) (counted s)) (both (sets_into t zone s) (tail_in t chosen region s))
+
+-- the cut of the tables, through the words of its zone and its region
+unfoldable pub cut_before : Tables → List ℕ → Set → List ℕ → ℕ → Set
+cut_before t costs counted chosen goal =
+    let zone = has (words_of 4 (zone_from t costs counted chosen goal)) in
+    cut_from t counted chosen zone (has (words_of 4 (region_from t counted chosen zone)))
 
 -- a cost taken off each step of a cut
 unfoldable pub taken_off : Set → ℕ → List ℕ → List ℕ
 taken_off cut cost costs = list_of (length costs) (λ s. entry costs s - pick (cut s) cost 0)
 
--- ---- sets grown in place, step by step, in any order
+-- ---- sets grown step by step, in any order
 
 -- step s is counted, costs nothing and sets a fact of X
-unfoldable pub free_into : List ℕ → List ℕ → Set → Set → ℕ → Bool
-free_into sets costs counted X s = both (counted s) (both (same (entry costs s) 0) (sets_into sets X s))
+unfoldable pub free_into : Tables → List ℕ → Set → Set → ℕ → Bool
+free_into t costs counted X s = both (counted s) (both (same (entry costs s) 0) (sets_into t X s))
 
 -- step s is counted and its chosen need is "begin" or in X
-unfoldable pub leads_from : ℕ → Set → List ℕ → Set → ℕ → Bool
-leads_from n counted chosen X s = both (counted s) (tail_in n chosen X s)
+unfoldable pub leads_from : Tables → Set → List ℕ → Set → ℕ → Bool
+leads_from t counted chosen X s = both (counted s) (tail_in t chosen X s)
 
 -- what step s adds to the zone X: its chosen need
-unfoldable pub zone_by : List ℕ → List ℕ → Set → List ℕ → Set → ℕ → Set
-zone_by sets costs counted chosen X s u = both (free_into sets costs counted X s) (same u (entry chosen s))
+unfoldable pub zone_by : Tables → List ℕ → Set → List ℕ → Set → ℕ → Set
+zone_by t costs counted chosen X s u = both (free_into t costs counted X s) (same u (entry chosen s))
 
 -- what step s adds to the region X: what it sets outside the zone
-unfoldable pub region_by : ℕ → List ℕ → Set → List ℕ → Set → Set → ℕ → Set
-region_by n sets counted chosen zone X s f = both (leads_from n counted chosen X s) (removed (has (row 4 s sets)) zone f)
+unfoldable pub region_by : Tables → Set → List ℕ → Set → Set → ℕ → Set
+region_by t counted chosen zone X s f = both (leads_from t counted chosen X s) (removed (has (row 4 s t.sets)) zone f)
 
 -- every member of X below n is one of Y
 abbrev pub Inside : ℕ → Set → Set → Type 0
 Inside n X Y = (f : ℕ) → f < n → Is (X f) → Is (Y f)
 
+-- what a step adds to a set it adds to every larger one
+abbrev pub RisingBy : ℕ → (Set → ℕ → Set) → Type 0
+RisingBy n by = (X Y : Set) → Inside n X Y → (s f : ℕ) → Is (by X s f) → Is (by Y s f)
+
+-- a step below m adds to a set of facts what the rule says, as far as it lies below n; `adds s X Y` says that Y may be what step s adds to X
+pub record RuledBy (n m : ℕ) (by : Set → ℕ → Set) (adds : ℕ → Facts → Facts → Type 0) : Type 0 where
+  pub few : n ≤ 256
+  pub rising : RisingBy n by
+  pub added : (s : ℕ) (X Y : Facts) → s < m → adds s X Y → Y.words ≡ words_of 4 (met (up_to n) (by (has X.words) s))
+
 -- no step below m adds to X a number below n
 abbrev pub Closed : ℕ → ℕ → (Set → ℕ → Set) → Set → Type 0
 Closed n m by X = (s : ℕ) → s < m → Inside n (by X s) X
 
--- the words hold X and only numbers below n, and lie inside every closed set that holds X
-pub record Grown (n m : ℕ) (by : Set → ℕ → Set) (X : Set) (words : List ℕ) : Type 0 where
-  pub whole : words ≡ words_of 4 (has words)
+-- the words are X grown by a pass over the steps below m: they hold X and only numbers below n, and lie inside every closed set that holds X; if the pass
+-- added nothing, X is closed
+pub record Passed (n m : ℕ) (by : Set → ℕ → Set) (X : Set) (words : List ℕ) : Type 0 where
   pub below_n : (f : ℕ) → Is (has words f) → f < n
   pub holds : Inside n X (has words)
   pub inside : (Z : Set) → Closed n m by Z → Inside n X Z → Inside n (has words) Z
-
--- the words are X grown by a pass over the steps below m: if it added nothing, X is closed
-pub record Passed (n m : ℕ) (by : Set → ℕ → Set) (X : Set) (words : List ℕ) : Type 0 where
-  pub grown : Grown n m by X words
   pub quiet : Inside n (has words) X → Closed n m by X
+
+-- whatever the rule of what a step adds, a pass over the steps below m made `words` of X
+pub record PassedOver (m : ℕ) (adds : ℕ → Facts → Facts → Type 0) (X words : List ℕ) : Type 0 where
+  pub by_rule : (n : ℕ) (by : Set → ℕ → Set) → RuledBy n m by adds → ((f : ℕ) → Is (has X f) → f < n) → Passed n m by (has X) words
+
+-- the least set that holds the seeds and all that a step below m adds to it
+unfoldable pub grown_by : ℕ → ℕ → (Set → ℕ → Set) → Set → Set
+grown_by n m by seeds = (least n (λ X f. any m (λ s. by X s f)) seeds).set

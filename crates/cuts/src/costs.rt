@@ -10,32 +10,28 @@ use sets::Steps;
 use task::Task;
 
 // The least cost among the steps of a cut; the mark where there is none.
+#[tactic(auto, using(crate::proofs::CostsTaken::least_more), unfolding(sets::specs::Tests::pick, distance::specs::Distance::least))]
 pub(crate) fn cheapest(costs: &[u32], cut: Steps) -> u32
     ensures { result ≡ least limits.mark (length costs.now) (has cut.words) (entry costs.now) }
 {
-    let mut cost = Task::MARK;
-    let mut step: usize = 0;
-    while step < costs.len() {
-        if cut.has(step) {
-            if costs[step] < cost {
-                cost = costs[step];
-            }
+    let mut least = Task::MARK;
+    for (step, &cost) in costs.iter().enumerate() {
+        if cut.has(step) && cost < least {
+            least = cost;
         }
-        step += 1;
     }
-    cost
+    least
 }
 
 // Takes a cost off each step of a cut.
+#[tactic(auto, using(crate::proofs::CostsTaken::taken_whole), unfolding(sets::specs::Tests::pick))]
 pub(crate) fn take_off(cut: Steps, cost: u32, costs: &mut [u32])
     requires { (s : ℕ) → Is (has cut.words s) → cost ≤ entry costs.old s }
     ensures { costs.new ≡ taken_off (has cut.words) cost costs.old }
 {
-    let mut step: usize = 0;
-    while step < costs.len() {
+    for (step, left) in costs.iter_mut().enumerate() {
         if cut.has(step) {
-            costs[step] = costs[step] - cost;
+            *left -= cost;
         }
-        step += 1;
     }
 }

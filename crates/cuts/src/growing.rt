@@ -1,218 +1,146 @@
-// The zone, the region outside it, and the cut between them, over sets of facts. Both sets are grown
-// in place, until a whole pass over the steps adds nothing.
-ghost use Rattle.std.specs.Prelude.{◌≡◌, ℕ, ◌<◌, ◌≤◌, length};
-ghost use Rattle.sets.specs.Tests.{Is, same};
-ghost use Rattle.sets.specs.Sets.{up_to, joined, met};
+// A round's justification graph: its zone, its region and the cut between them.
+//
+// The vertices are the facts and "begin", which has the number after the last fact. The arcs of a
+// step run from its chosen need to every fact that it sets. "begin" is never in the zone and always
+// in the region, so both are sets of facts.
+ghost use Rattle.std.specs.Prelude.{◌≡◌, ℕ, ◌<◌, length};
+ghost use Rattle.sets.specs.Tests.{Is};
+ghost use Rattle.sets.specs.Sets.{Set, up_to, met};
 ghost use Rattle.sets.specs.Words.{has, words_of};
-ghost use Rattle.task.specs.Rows.{RowsBelow};
-ghost use Rattle.cuts.specs.Workers.{sets_into, zone_from, region_from, cut_from, free_into, leads_from, zone_by, region_by, Passed};
+ghost use Rattle.task.specs.Lent.{lent};
+ghost use Rattle.cuts.specs.Workers.{sets_into, zone_from, region_from, cut_from, cut_before, free_into, leads_from, zone_by, region_by, RuledBy, PassedOver, grown_by};
 
+use crate::choosing;
 use sets::{Facts, Steps};
+use task::Task;
 
-// The facts from which steps that cost nothing lead to the goal's choice.
-pub(crate) fn find_zone(
-    n: usize,
-    sets: &[u64],
-    costs: &[u32],
-    counted: Steps,
-    chosen: &[u16],
-    goal: usize,
-) -> Facts
-    requires { (n ≤ 256) × (goal < n) × (length costs.now ≤ 1024) × (length chosen.now ≡ length costs.now) × RowsBelow n sets.now }
-    ensures { result.words ≡ words_of 4 (zone_from n sets.now costs.now (has counted.words) chosen.now goal) }
-{
-    let mut zone = Facts::empty().with(goal);
-    loop {
-        let next = zone_pass(n, sets, costs, counted, chosen, zone);
-        if next.within(zone) {
-            return zone;
-        }
-        zone = next;
+// The arcs of the steps that count.
+#[derive(Clone, Copy)]
+pub(crate) struct Graph<'a> {
+    pub task: Task<'a>,
+    // The steps that count.
+    pub counted: Steps,
+    // The chosen need of each step, as a vertex.
+    pub chosen: &'a [u16],
+    pub ghost each: { length chosen.now ≡ task.tables.sizes.steps },
+}
+
+impl Graph<'_> {
+    // The steps that lead from the region into the zone of the goal's choice, under these costs.
+    #[tactic(auto, using(crate::proofs::OneRound::before_found))]
+    pub(crate) fn cut_before(&self, costs: &[u32], goal: usize) -> Steps
+        requires goal { goal < self.now.task.tables.sizes.facts }
+        requires costs { length costs.now ≡ self.now.task.tables.sizes.steps }
+        ensures { result.words ≡ words_of 16 (cut_before (lent self.now.task.tables) costs.now (has self.now.counted.words) self.now.chosen.now goal) }
+    {
+        let zone = self.zone(costs, goal);
+        let region = self.region(zone);
+        self.cut(zone, region)
     }
+
+    // The facts from which steps that cost nothing lead to the goal's choice.
+    fn zone(&self, costs: &[u32], goal: usize) -> Facts
+        requires goal { goal < self.now.task.tables.sizes.facts }
+        requires costs { length costs.now ≡ self.now.task.tables.sizes.steps }
+        ensures { result.words ≡ words_of 4 (zone_from (lent self.now.task.tables) costs.now (has self.now.counted.words) self.now.chosen.now goal) }
+    {
+        let last = Facts::empty().with(goal);
+        grow(self.chosen.len(), last, |step, zone| {
+            self.tail_into(costs, step, zone)
+        })
+    }
+
+    // The facts that can be reached from the start without entering the zone.
+    fn region(&self, zone: Facts) -> Facts
+        ensures { result.words ≡ words_of 4 (region_from (lent self.now.task.tables) (has self.now.counted.words) self.now.chosen.now (has zone.words)) }
+    {
+        let start = self.task.tables.start_facts();
+        grow(self.chosen.len(), start, |step, region| {
+            self.heads_outside(zone, step, region)
+        })
+    }
+
+    // The steps that lead from the region, or from "begin", into the zone.
+    fn cut(&self, zone: Facts, region: Facts) -> Steps
+        ensures { result.words ≡ words_of 16 (cut_from (lent self.now.task.tables) (has self.now.counted.words) self.now.chosen.now (has zone.words) (has region.words)) }
+    {
+        choosing::steps_where(self.chosen.len(), |step| {
+            self.leads_from(step, region) && self.sets_into(step, zone)
+        })
+    }
+
+    // The step's chosen need, if it is a fact and the step costs nothing and sets a fact of the
+    // zone.
+    fn tail_into(&self, costs: &[u32], step: usize, zone: Facts) -> Facts
+        requires step { step < length self.now.chosen.now }
+        requires costs { length costs.now ≡ self.now.task.tables.sizes.steps }
+        ensures { result.words ≡ words_of 4 (met (up_to self.now.task.tables.sizes.facts) (zone_by (lent self.now.task.tables) costs.now (has self.now.counted.words) self.now.chosen.now (has zone.words) step)) }
+    {
+        let tail = usize::from(self.chosen[step]);
+        if tail < self.task.tables.sizes.facts && self.free_into(costs, step, zone) {
+            Facts::empty().with(tail)
+        } else {
+            Facts::empty()
+        }
+    }
+
+    // What the step sets outside the zone, if it leads from the region.
+    fn heads_outside(&self, zone: Facts, step: usize, region: Facts) -> Facts
+        requires { step < length self.now.chosen.now }
+        ensures { result.words ≡ words_of 4 (met (up_to self.now.task.tables.sizes.facts) (region_by (lent self.now.task.tables) (has self.now.counted.words) self.now.chosen.now (has zone.words) (has region.words) step)) }
+    {
+        if self.leads_from(step, region) {
+            self.task.tables.sets_of(step).removing(zone)
+        } else {
+            Facts::empty()
+        }
+    }
+
+    // Whether a step counts, costs nothing and sets a fact of a set.
+    #[tactic(auto, unfolding(crate::specs::Workers::free_into, sets::specs::Tests::both, sets::specs::Tests::same))]
+    fn free_into(&self, costs: &[u32], step: usize, set: Facts) -> bool
+        requires { step < length costs.now }
+        ensures { result ≡ free_into (lent self.now.task.tables) costs.now (has self.now.counted.words) (has set.words) step }
+    {
+        self.counted.has(step) && costs[step] == 0 && self.sets_into(step, set)
+    }
+
+    // Whether a step sets a fact of a set.
+    #[tactic(auto, using(crate::proofs::GrownSets::sets_told))]
+    fn sets_into(&self, step: usize, set: Facts) -> bool
+        ensures { result ≡ sets_into (lent self.now.task.tables) (has set.words) step }
+    {
+        self.task.tables.sets_of(step).meeting(set).size() != 0
+    }
+
+    // Whether a step counts and its chosen need is "begin" or in a set.
+    #[tactic(auto, unfolding(crate::specs::Workers::leads_from, crate::specs::Workers::tail_in, sets::specs::Tests::both, sets::specs::Tests::either, sets::specs::Tests::no, sets::specs::Tests::below))]
+    fn leads_from(&self, step: usize, set: Facts) -> bool
+        requires { step < length self.now.chosen.now }
+        ensures { result ≡ leads_from (lent self.now.task.tables) (has self.now.counted.words) self.now.chosen.now (has set.words) step }
+    {
+        let tail = usize::from(self.chosen[step]);
+        self.counted.has(step) && (self.task.tables.sizes.facts <= tail || set.has(tail))
+    }
+}
+
+// The seeds and all that the steps below m add to them, pass after pass until one adds nothing.
+// `added` says what a step adds to a set.
+fn grow<F: Fn(usize, Facts) -> Facts>(m: usize, seeds: Facts, added: F) -> Facts
+    requires { (step : ℕ) (set : _) → step < m → F.pre added step set }
+    ensures { (n : ℕ) (by : Set → ℕ → Set) → RuledBy n m by (F.post added) → ((f : ℕ) → Is (has seeds.words f) → f < n) → result.words ≡ words_of 4 (grown_by n m by (has seeds.words)) }
+{
+    reach::close(seeds, |set| pass(m, set, &added)).set
 }
 
 // One pass of it.
-fn zone_pass(
-    n: usize,
-    sets: &[u64],
-    costs: &[u32],
-    counted: Steps,
-    chosen: &[u16],
-    zone: Facts,
-) -> Facts
-    requires { (n ≤ 256) × (length chosen.now ≡ length costs.now) × RowsBelow n sets.now × ((f : ℕ) → Is (has zone.words f) → f < n) }
-    ensures { Passed n (length chosen.now) (zone_by sets.now costs.now (has counted.words) chosen.now) (has zone.words) result.words }
+fn pass<F: Fn(usize, Facts) -> Facts>(m: usize, set: Facts, added: &F) -> Facts
+    requires { (step : ℕ) (set : _) → step < m → F.pre added.now step set }
+    ensures { PassedOver m (F.post added.now) set.words result.words }
 {
-    let mut next = zone;
-    let mut step: usize = 0;
-    while step < chosen.len() {
-        next = zone_step(n, sets, costs, counted, chosen, step, next);
-        step += 1;
+    let mut next = set;
+    for step in 0..m {
+        next = next.joining(added(step, next));
     }
     next
-}
-
-// The zone with the step's chosen need, if the step costs nothing and sets a fact of the zone.
-fn zone_step(
-    n: usize,
-    sets: &[u64],
-    costs: &[u32],
-    counted: Steps,
-    chosen: &[u16],
-    step: usize,
-    zone: Facts,
-) -> Facts
-    requires { (step < length chosen.now) × (length chosen.now ≡ length costs.now) }
-    ensures { result.words ≡ words_of 4 (joined (has zone.words) (met (up_to n) (zone_by sets.now costs.now (has counted.words) chosen.now (has zone.words) step))) }
-{
-    if !free_into(sets, costs, counted, step, zone) {
-        return zone;
-    }
-    let tail = chosen[step] as usize;
-    if n <= tail {
-        return zone;
-    }
-    zone.with(tail)
-}
-
-// Whether a step is counted, costs nothing and sets a fact of a set.
-fn free_into(sets: &[u64], costs: &[u32], counted: Steps, step: usize, set: Facts) -> bool
-    requires { step < length costs.now }
-    ensures { result ≡ free_into sets.now costs.now (has counted.words) (has set.words) step }
-{
-    if !counted.has(step) {
-        return false;
-    }
-    if costs[step] != 0 {
-        return false;
-    }
-    sets_into(sets, step, set)
-}
-
-// Whether a step sets a fact of a set.
-fn sets_into(sets: &[u64], step: usize, set: Facts) -> bool
-    ensures { result ≡ sets_into sets.now (has set.words) step }
-{
-    Facts::row(sets, step).meeting(set).size() != 0
-}
-
-// The facts that can be reached from the start without entering the zone.
-pub(crate) fn find_region(
-    n: usize,
-    sets: &[u64],
-    counted: Steps,
-    chosen: &[u16],
-    zone: Facts,
-    start: Facts,
-) -> Facts
-    requires { (n ≤ 256) × (length chosen.now ≤ 1024) × RowsBelow n sets.now × ((f : ℕ) → Is (has start.words f) → f < n) }
-    ensures { result.words ≡ words_of 4 (region_from n (length chosen.now) sets.now (has counted.words) chosen.now (has zone.words) (has start.words)) }
-{
-    let mut region = start;
-    loop {
-        let next = region_pass(n, sets, counted, chosen, zone, region);
-        if next.within(region) {
-            return region;
-        }
-        region = next;
-    }
-}
-
-// One pass of it.
-fn region_pass(
-    n: usize,
-    sets: &[u64],
-    counted: Steps,
-    chosen: &[u16],
-    zone: Facts,
-    region: Facts,
-) -> Facts
-    requires { (n ≤ 256) × RowsBelow n sets.now × ((f : ℕ) → Is (has region.words f) → f < n) }
-    ensures { Passed n (length chosen.now) (region_by n sets.now (has counted.words) chosen.now (has zone.words)) (has region.words) result.words }
-{
-    let mut next = region;
-    let mut step: usize = 0;
-    while step < chosen.len() {
-        next = region_step(n, sets, counted, chosen, zone, step, next);
-        step += 1;
-    }
-    next
-}
-
-// The region with what the step sets outside the zone, if the step leads from it.
-fn region_step(
-    n: usize,
-    sets: &[u64],
-    counted: Steps,
-    chosen: &[u16],
-    zone: Facts,
-    step: usize,
-    region: Facts,
-) -> Facts
-    requires { (step < length chosen.now) × RowsBelow n sets.now }
-    ensures { result.words ≡ words_of 4 (joined (has region.words) (met (up_to n) (region_by n sets.now (has counted.words) chosen.now (has zone.words) (has region.words) step))) }
-{
-    if !leads_from(n, counted, chosen, step, region) {
-        return region;
-    }
-    region.joining(Facts::row(sets, step).removing(zone))
-}
-
-// Whether a step is counted and its chosen need is "begin" or in a set.
-fn leads_from(n: usize, counted: Steps, chosen: &[u16], step: usize, set: Facts) -> bool
-    requires { step < length chosen.now }
-    ensures { result ≡ leads_from n (has counted.words) chosen.now (has set.words) step }
-{
-    if !counted.has(step) {
-        return false;
-    }
-    let tail = chosen[step] as usize;
-    if n <= tail {
-        return true;
-    }
-    set.has(tail)
-}
-
-// The steps that lead from the region, or from "begin", into the zone.
-pub(crate) fn find_cut(
-    n: usize,
-    sets: &[u64],
-    counted: Steps,
-    chosen: &[u16],
-    zone: Facts,
-    region: Facts,
-) -> Steps
-    requires { length chosen.now ≤ 1024 }
-    ensures { result.words ≡ words_of 16 (cut_from n (length chosen.now) sets.now (has counted.words) chosen.now (has zone.words) (has region.words)) }
-{
-    let mut cut = Steps::empty();
-    let mut step: usize = 0;
-    while step < chosen.len() {
-        cut = cut_step(n, sets, counted, chosen, zone, region, step, cut);
-        step += 1;
-    }
-    cut
-}
-
-// The cut with the step, if it leads from the region into the zone.
-fn cut_step(
-    n: usize,
-    sets: &[u64],
-    counted: Steps,
-    chosen: &[u16],
-    zone: Facts,
-    region: Facts,
-    step: usize,
-    cut: Steps,
-) -> Steps
-    requires { step < length chosen.now }
-    ensures { result.words ≡ words_of 16 (joined (has cut.words) (met (same step) (cut_from n (length chosen.now) sets.now (has counted.words) chosen.now (has zone.words) (has region.words)))) }
-{
-    if !leads_from(n, counted, chosen, step, region) {
-        return cut;
-    }
-    if !sets_into(sets, step, zone) {
-        return cut;
-    }
-    cut.with(step)
 }

@@ -1,16 +1,16 @@
 use native.Mathlib.Omega.{arith}
-use borrow.Author.Rules.{rules}
-use Rattle.cuts.proofs.FarthestFound.{choice_most, read_below, chosen_next, chosen_end}
+use Rattle.std.proofs.lemmas.Grind.{common_steps}
+use Rattle.task.specs.Lent.{lent}
+use Rattle.cuts.proofs.FarthestFound.{read_below, choice_read, choices_written}
 use Rattle.cuts.proofs.choosing.choose_needs.Goals as goal
 
 pub farthest-requires : goal.farthest-requires
-farthest-requires c = search (rules, read_below)
-
-pub overflow_cast-chosen : goal.overflow_cast-chosen
-overflow_cast-chosen c = omega (arith, choice_most _ _ _ _ c.farthest.ensures)
+farthest-requires c = record { few = c.args.task.valid.few_facts; below = read_below _ c.args.task.valid _ _ c.needs_of.ensures }
 
 pub loop-step-preserved : goal.loop-step-preserved
-loop-step-preserved c = search (rules, chosen_next)
+loop-step-preserved c =
+    let e = choice_read (lent c.args.task.tables) c.args.task.valid c.loop-step.step _ c.needs_of.ensures c.args.table.now c.farthest.result c.farthest.ensures.choice in
+    grind (arith, common_steps)
 
 pub returns : goal.returns
-returns c = search (rules, chosen_end)
+returns c = choices_written (lent c.args.task.tables) c.args.table.now c.loop-step.chosen (omega arith) (λ s l. c.loop-step.invariant s (omega arith))

@@ -1,12 +1,10 @@
 -- The choices of the steps before the present one are written.
-use Prim.Native.Nat.{◌-◌}
-use lib.ListN.{length}
-use Rattle.cuts.proofs.WrittenInPlace.{Written}
+use Prim.Native.Nat.{ℕ, ◌<◌}
+use mathlib.Core.Path.{◌≡◌}
+use Rattle.task.specs.Lent.{lent}
+use Rattle.distance.specs.Distance.{entry}
 use Rattle.cuts.proofs.FarthestFound.{choice_of}
 use Rattle.cuts.proofs.choosing.choose_needs.Given as goal
 
 abbrev pub invariant-loop-step : goal.invariant-loop-step
-invariant-loop-step l = Written (choice_of l.n l.needs l.table) l.initial.chosen l.chosen l.step
-
-abbrev pub decreases-loop-step : goal.decreases-loop-step
-decreases-loop-step l = length l.initial.chosen - l.step
+invariant-loop-step l = (s : ℕ) → s < l.step → entry l.chosen s ≡ choice_of (lent l.task.tables) l.table s

@@ -1,17 +1,10 @@
 use borrow.Author.Rules.{rules}
-use Rattle.cuts.proofs.StepsCounted.{counted_start, counted_with, counted_idle, counted_off}
+use Rattle.sets.specs.Sets.{up_to, met, within}
+use Rattle.sets.specs.Words.{has, row}
+use Rattle.cuts.specs.Workers.{counted_from}
 use Rattle.cuts.proofs.choosing.counted_steps.Goals as goal
-use Rattle.cuts.proofs.choosing.counted_steps.Goals.{then-not-has+then-needs_hold, then-not-has+else-needs_hold, else-not-has}
 
-pub loop-step-init : goal.loop-step-init
-loop-step-init c = search (rules, counted_start)
-
-pub loop-step-preserved : goal.loop-step-preserved
-loop-step-preserved c = (
-  search rules,
-  elim c.if-not-has.branch [
-    | then-not-has+then-needs_hold w ↦ search (rules, counted_with)
-    | then-not-has+else-needs_hold w ↦ search (rules, counted_idle)
-    | else-not-has w ↦ search (rules, counted_off)
-  ],
-)
+pub returns : goal.returns
+unfolding counted_from met up_to
+returns c =
+    c.steps_where.ensures (λ s. within 256 (has (row 4 s c.args.task.tables.needs.now)) (has c.args.reached.words)) (λ s told l e. search rules)

@@ -1,20 +1,23 @@
-use borrow.Author.Rules.{rules}
-use Rattle.cuts.proofs.FarthestFound.{looked_less, looked_first, looked_farther, looked_nearer, looked_end}
+use mathlib.Core.Logic.{inl, inr}
+use Rattle.cuts.proofs.FarthestFound.{looked_farther, looked_nearer, looked_end}
 use Rattle.cuts.proofs.choosing.farthest.Goals as goal
-use Rattle.cuts.proofs.choosing.farthest.Goals.{then-found-n, then-found-n-via-then-found-n, then-found-n-via-else-found-n+then-most-here, else-found-n+else-most-here}
+use Rattle.cuts.proofs.choosing.farthest.Goals.{then-found-n-via-then-found-n, then-found-n-via-else-found-n+then-most-here}
 
-pub returns-then-f-eq-ROOM : goal.returns-then-f-eq-ROOM
-returns-then-f-eq-ROOM c = search (rules, looked_end)
+pub loop-f-preserved-in-loop-f : goal.loop-f-preserved-in-loop-f
+loop-f-preserved-in-loop-f c =
+    looked_farther _ _ _ c.requires.few c.requires.below _ _ _ c.loop-f.invariant _ _ c.in-Some.ensures.steps c.next.new.self.whole _ c.entry_at-here.ensures
+    (elim c.then-found-n.branch [
+      | then-found-n-via-then-found-n w ↦ inl w.if-found-n.true
+      | then-found-n-via-else-found-n+then-most-here w ↦ inr w.if-most-here.true
+    ])
 
-pub loop-left-smaller : goal.loop-left-smaller
-loop-left-smaller c = search (rules, looked_less)
+pub loop-f-preserved : goal.loop-f-preserved
+loop-f-preserved c =
+    looked_nearer _ _ _ c.requires.few c.requires.below _ _ _ c.loop-f.invariant _ _ c.in-Some.ensures.steps c.next.new.self.whole _ c.entry_at-here.ensures
+    c.if-found-n.false c.if-most-here.false
 
-pub loop-left-preserved : goal.loop-left-preserved
-loop-left-preserved c =
-    elim c.if-found-n.branch [
-      | then-found-n w ↦ elim w.then-found-n.branch [
-        | then-found-n-via-then-found-n v ↦ search (rules, looked_first)
-        | then-found-n-via-else-found-n+then-most-here v ↦ search (rules, looked_farther)
-      ]
-      | else-found-n+else-most-here w ↦ search (rules, looked_nearer)
-    ]
+pub returns : goal.returns
+returns c = record {
+  choice = looked_end _ _ _ c.requires.few c.requires.below _ _ _ c.loop-f.invariant c.in-None.ensures.steps.0;
+  most = c.loop-f.invariant.bound;
+}

@@ -1,13 +1,13 @@
 -- The costs before the step have had the cost taken off, and the others are as they were.
-use Prim.Native.Nat.{◌-◌}
-use lib.ListN.{length}
+use Prim.Native.Nat.{ℕ, ◌-◌, ◌≤◌, ◌<◌}
+use mathlib.Core.Path.{◌≡◌}
+use Rattle.sets.specs.Tests.{pick}
 use Rattle.sets.specs.Words.{has}
-use Rattle.cuts.proofs.WrittenInPlace.{Written}
-use Rattle.cuts.proofs.CostsTaken.{costs_left}
+use Rattle.distance.specs.Distance.{entry}
 use Rattle.cuts.proofs.costs.take_off.Given as goal
 
 abbrev pub invariant-loop-step : goal.invariant-loop-step
-invariant-loop-step l = Written (costs_left (has l.cut.words) l.cost l.initial.costs) l.initial.costs l.costs l.step
-
-abbrev pub decreases-loop-step : goal.decreases-loop-step
-decreases-loop-step l = length l.initial.costs - l.step
+invariant-loop-step l = record {
+  done : (s : ℕ) → s < l.step → entry l.costs s ≡ entry l.initial.costs s - pick (has l.cut.words s) l.cost 0;
+  rest : (s : ℕ) → l.step ≤ s → entry l.costs s ≡ entry l.initial.costs s;
+}

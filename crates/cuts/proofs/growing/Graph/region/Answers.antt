@@ -1,0 +1,9 @@
+use borrow.Author.Rules.{rules}
+use Rattle.task.proofs.RowsRead.{start_read}
+use Rattle.cuts.proofs.GrownSets.{region_grown}
+use Rattle.cuts.proofs.growing.Graph.region.Goals as goal
+
+pub returns : goal.returns
+returns c =
+    region_grown _ c.args.self.now.task.valid _ _ c.args.self.now.each _ _ (λ s X Y l e. search rules)
+    _ (start_read _ c.args.self.now.task.valid c.start_facts-start.ensures) c.grow.ensures
