@@ -1,24 +1,28 @@
 -- Contents that fit are records that follow one another, and records that follow are those of contents that fit: by induction on the facts and steps.
 use Prim.Native.Nat.{ℕ, zero, suc, ◌+◌, ◌≤◌, ◌<◌}
 use mathlib.Core.Path.{◌≡◌, refl, sym, ap, ap₂, ◌∙◌}
-use mathlib.Core.Bool.{Bool, true, false}
+use mathlib.Core.Bool.{Bool, false}
 use mathlib.Core.Logic.{inl, inr}
 use mathlib.Core.List.{List, [], ◌∷◌, ◌++◌, append_assoc}
 use native.Mathlib.Numerals.{add-one}
 use native.Mathlib.Omega.{arith}
 use lib.ListN.{length}
 use Rattle.sets.specs.Tests.{Is, no, both, below, same, pick}
-use Rattle.sets.proofs.Tests.{not_is, both_l, both_r, both_true, either_l, either_r, either_cases, either_not, no_true, no_false, below_true, below_at, below_false, below_not, same_true, same_at, pick_true, pick_false, compare}
+use Rattle.sets.proofs.Tests.{not_is, both_l, both_r, both_true, either_not, no_true, no_false, below_true, below_at, below_false, below_not, same_true, same_at, pick_true, pick_false, tell}
+use Rattle.std.specs.Prelude.{Some}
+use Rattle.task.specs.declared.refusal.Fault.TheVariants.{FactCount, StepCount, StepCost, ShortResult, Misplaced, RecordFact, StepRecords}
 use Rattle.task.specs.Check.{wrong_facts, wrong_steps}
 use Rattle.task.proofs.Refusals.{skip_fine, none_left, fine_first, fine_rest}
+use Rattle.taskfile.specs.declared.format.Part.{Part}
 use Rattle.taskfile.specs.declared.format.Record.{Record}
 use Rattle.taskfile.specs.declared.format.Record.TheVariants.{End, Head, Step, Names}
 use Rattle.taskfile.specs.declared.cursor.Cursor.{Cursor}
 use Rattle.taskfile.specs.Sound.{Naming, Block, Contents, naming_records, block_records, records_of, first_fits, part_fits, all_of, block_fits, fits}
+use Rattle.taskfile.specs.Records.{is_first}
 use Rattle.taskfile.specs.Meaning.{first_namings, blocks_in, contents_of}
 use Rattle.taskfile.specs.Judging.{begin, fact_in_place, in_place, numbers_verdict, record_verdict}
 use Rattle.taskfile.proofs.Refusing.{at_fine, fine_at, at_test, test_at, or_fine, or_first, or_second}
-use Rattle.taskfile.proofs.Bytes.{FactKind, Writable, end_writable, head_writable, step_writable, fact_writable}
+use Rattle.taskfile.proofs.Bytes.{end_writable, head_writable, step_writable, fact_writable}
 use Rattle.taskfile.proofs.Following.{Goes, Follows, last, next, no_end_head, no_end_step, no_end_fact}
 
 -- ---- the contents of their records
@@ -69,61 +73,18 @@ contents_back c =
 
 -- ---- a record that is sound, and what it says
 
-above : (n k : ℕ) → n ≤ k → ¬ (k ≡ n) → n < k
-above n k l d = elim (compare n k) [ inl h ↦ h | inr h ↦ absurd (d (omega arith)) ]
+abbrev naming : Part → ℕ → Naming
+naming part f = record { part = part; fact = f }
 
--- the kinds of facts
-fact_kind : (kind : ℕ) → 2 ≤ kind → kind < 8 → ¬ (kind ≡ 4) → FactKind kind
-fact_kind kind l h d = record { known = h; no_end = λ e. omega arith; no_head = λ e. omega arith; no_step = d }
-
-abbrev naming : ℕ → ℕ → Naming
-naming kind f = record { kind = kind; fact = f }
-
--- those that fit before the first step are 2 and 3, and those that fit after one are 5 to 7
-module _ (n kind f : ℕ) where
-  first_range : Is (first_fits n (naming kind f)) → (2 ≤ kind) × (kind < 4) × (f < n)
+-- start and goal fit before the first step, the other parts after one
+module _ (n : ℕ) (part : Part) (f : ℕ) (fact : f < n) where
+  first_fits_lem : Is (is_first part) → Is (first_fits n (naming part f))
   unfolding first_fits
-  first_range h =
-      let fact = below_at f n (both_r _ _ h) in
-      elim (either_cases _ _ (both_l _ _ h)) [
-        | inl e ↦ let is = same_at kind 2 e in (omega arith, omega arith, fact)
-        | inr e ↦ let is = same_at kind 3 e in (omega arith, omega arith, fact)
-      ]
+  first_fits_lem h = both_true _ _ h (below_true f n fact)
 
-  first_fits_lem : 2 ≤ kind → kind < 4 → f < n → Is (first_fits n (naming kind f))
-  unfolding first_fits
-  first_fits_lem l h fact =
-      both_true _ _
-      (elim (compare kind 3) [
-        | inl k ↦ either_l _ _ (same_true kind 2 (omega arith))
-        | inr k ↦ either_r _ _ (same_true kind 3 (omega arith))
-      ])
-      (below_true f n fact)
-
-  part_range : Is (part_fits n (naming kind f)) → (5 ≤ kind) × (kind < 8) × (f < n)
+  part_fits_lem : is_first part ≡ false → Is (part_fits n (naming part f))
   unfolding part_fits
-  part_range h =
-      let fact = below_at f n (both_r _ _ h) in
-      elim (either_cases _ _ (both_l _ _ h)) [
-        | inl e ↦ let is = same_at kind 5 e in (omega arith, omega arith, fact)
-        | inr k ↦ elim (either_cases _ _ k) [
-          | inl e ↦ let is = same_at kind 6 e in (omega arith, omega arith, fact)
-          | inr e ↦ let is = same_at kind 7 e in (omega arith, omega arith, fact)
-        ]
-      ]
-
-  part_fits_lem : 5 ≤ kind → kind < 8 → f < n → Is (part_fits n (naming kind f))
-  unfolding part_fits
-  part_fits_lem l h fact =
-      both_true _ _
-      (elim (compare kind 6) [
-        | inl k ↦ either_l _ _ (same_true kind 5 (omega arith))
-        | inr k ↦ either_r _ _ (elim (compare kind 7) [
-          | inl j ↦ either_l _ _ (same_true kind 6 (omega arith))
-          | inr j ↦ either_r _ _ (same_true kind 7 (omega arith))
-        ])
-      ])
-      (below_true f n fact)
+  part_fits_lem h = both_true _ _ (no_true _ h) (below_true f n fact)
 
 -- which facts fit after b steps
 unfoldable fits_after : ℕ → ℕ → Naming → Bool
@@ -132,50 +93,42 @@ fits_after n (suc b) = part_fits n
 
 -- a cursor past the head
 abbrev past : ℕ → ℕ → ℕ → ℕ → Cursor
-past at n m b = record { at = at; headed = true; facts = n; steps = m; begun = b }
+past at n m b = record { at = at; head = Some (record { facts = n; steps = m }); begun = b }
 
 module _ (room : ℕ → Bool) (at n m : ℕ) where
   -- a fact
-  fact_goes : (b kind f : ℕ) → FactKind kind → f < n → n ≤ 256 → Is (pick (below kind 4) (same b 0) (below 0 b)) → Goes room (past at n m b) (Names kind f)
+  fact_goes : (b : ℕ) (part : Part) (f : ℕ) → f < n → n ≤ 256 → Is (pick (is_first part) (same b 0) (below 0 b)) → Goes room (past at n m b) (Names part f)
   unfolding record_verdict numbers_verdict in_place fact_in_place both
-  fact_goes b kind f k fact few place = record {
-    written = fact_writable {kind = kind} {f = f} k (omega arith);
-    fine = or_fine _ _ (at_test at 13 place) (at_test at 14 (below_true f n fact));
+  fact_goes b part f fact few place = record {
+    written = fact_writable {part = part} {f = f} (omega arith);
+    fine = or_fine _ _ (at_test at Misplaced place) (at_test at RecordFact (below_true f n fact));
   }
 
-  names_go : (b : ℕ) (g : Naming) → n ≤ 256 → Is (fits_after n b g) → Goes room (past at n m b) (Names g.kind g.fact)
-  unfolding fits_after
+  names_go : (b : ℕ) (g : Naming) → n ≤ 256 → Is (fits_after n b g) → Goes room (past at n m b) (Names g.part g.fact)
+  unfolding fits_after first_fits part_fits
   names_go zero g few h =
-      let r = first_range n g.kind g.fact h in
-      fact_goes zero g.kind g.fact (fact_kind g.kind r.0 (omega arith) (λ e. omega arith)) r.2 few
-      (pick_true _ _ (below_true g.kind 4 r.1) ∙ same_true 0 0 refl)
+      fact_goes zero g.part g.fact (below_at g.fact n (both_r _ _ h)) few (pick_true _ _ (both_l _ _ h) ∙ same_true 0 0 refl)
   names_go (suc b) g few h =
-      let r = part_range n g.kind g.fact h in
-      fact_goes (suc b) g.kind g.fact (fact_kind g.kind (omega arith) r.1 (λ e. omega arith)) r.2 few
-      (pick_false _ _ (below_false g.kind 4 (omega arith)) ∙ below_true 0 (suc b) (omega arith))
+      fact_goes (suc b) g.part g.fact (below_at g.fact n (both_r _ _ h)) few
+      (pick_false _ _ (no_false _ (both_l _ _ h)) ∙ below_true 0 (suc b) (omega arith))
 
-  go_fact : (b kind f : ℕ) → Goes room (past at n m b) (Names kind f) → FactKind kind × (f < n) × Is (pick (below kind 4) (same b 0) (below 0 b))
+  go_fact : (b : ℕ) (part : Part) (f : ℕ) → Goes room (past at n m b) (Names part f) → (f < n) × Is (pick (is_first part) (same b 0) (below 0 b))
   unfolding record_verdict numbers_verdict in_place fact_in_place both
-  go_fact b kind f g =
-      (kind_of g.written, below_at f n (test_at at 14 _ (or_second _ _ g.fine)), test_at at 13 _ (or_first _ _ g.fine))
-    where
-      kind_of : Writable (Names kind f) → FactKind kind
-      kind_of (fact_writable k l) = k
+  go_fact b part f g = (below_at f n (test_at at RecordFact _ (or_second _ _ g.fine)), test_at at Misplaced _ (or_first _ _ g.fine))
 
-  go_names : (b kind f : ℕ) → Goes room (past at n m b) (Names kind f) → Is (fits_after n b (naming kind f))
+  go_names : (b : ℕ) (part : Part) (f : ℕ) → Goes room (past at n m b) (Names part f) → Is (fits_after n b (naming part f))
   unfolding fits_after
-  go_names zero kind f g =
-      let k = go_fact zero kind f g in
-      let some = above 0 kind (omega arith) k.0.no_end in
-      elim (compare kind 4) [
-        | inl l ↦ first_fits_lem n kind f (above 1 kind (omega arith) k.0.no_head) l k.1
-        | inr l ↦ absurd (omega (arith, below_at 0 0 (sym (pick_false _ _ (below_false kind 4 l)) ∙ k.2)))
+  go_names zero part f g =
+      let k = go_fact zero part f g in
+      elim (tell (is_first part)) [
+        | inl h ↦ first_fits_lem n part f k.0 h
+        | inr h ↦ absurd (omega (arith, below_at 0 0 (sym (pick_false _ _ h) ∙ k.1)))
       ]
-  go_names (suc b) kind f g =
-      let k = go_fact (suc b) kind f g in
-      elim (compare kind 4) [
-        | inl l ↦ absurd (omega (arith, same_at (suc b) 0 (sym (pick_true _ _ (below_true kind 4 l)) ∙ k.2)))
-        | inr l ↦ part_fits_lem n kind f (above 4 kind l k.0.no_step) k.0.known k.1
+  go_names (suc b) part f g =
+      let k = go_fact (suc b) part f g in
+      elim (tell (is_first part)) [
+        | inl h ↦ absurd (omega (arith, same_at (suc b) 0 (sym (pick_true _ _ h) ∙ k.1)))
+        | inr h ↦ part_fits_lem n part f k.0 h
       ]
 
 module _ (room : ℕ → Bool) (at n m b : ℕ) where
@@ -185,29 +138,29 @@ module _ (room : ℕ → Bool) (at n m b : ℕ) where
   step_goes cost cheap more = record {
     written = step_writable {cost = cost} (omega arith);
     fine =
-        or_fine _ _ (at_test at 13 refl)
-        (skip_fine _ (at_fine at 5 (below_false 65535 cost cheap)) ∙ skip_fine [] (at_test at 15 (below_true b m more)) ∙ none_left);
+        or_fine _ _ (at_test at Misplaced refl)
+        (skip_fine _ (at_fine at StepCost (below_false 65535 cost cheap)) ∙ skip_fine [] (at_test at StepRecords (below_true b m more)) ∙ none_left);
   }
 
   go_step : (cost : ℕ) → Goes room (past at n m b) (Step cost) → (cost ≤ 65535) × (b < m)
   unfolding record_verdict numbers_verdict in_place
   go_step cost g =
       let numbers = or_second _ _ g.fine in
-      (below_not 65535 cost (fine_at at 5 _ (fine_first _ _ numbers)), below_at b m (test_at at 15 _ (fine_first _ _ (fine_rest _ _ numbers))))
+      (below_not 65535 cost (fine_at at StepCost _ (fine_first _ _ numbers)), below_at b m (test_at at StepRecords _ (fine_first _ _ (fine_rest _ _ numbers))))
 
   -- the end
   end_goes : b ≡ m → Goes room (past at n m b) End
   unfolding record_verdict numbers_verdict in_place
-  end_goes e = record { written = end_writable; fine = or_fine _ _ (at_test at 13 refl) (at_test at 15 (same_true b m e)) }
+  end_goes e = record { written = end_writable; fine = or_fine _ _ (at_test at Misplaced refl) (at_test at StepRecords (same_true b m e)) }
 
   go_end : Goes room (past at n m b) End → b ≡ m
   unfolding record_verdict numbers_verdict in_place
-  go_end g = same_at b m (test_at at 15 _ (or_second _ _ g.fine))
+  go_end g = same_at b m (test_at at StepRecords _ (or_second _ _ g.fine))
 
   -- no second head
   go_head : {A : Type 0} (k l : ℕ) → Goes room (past at n m b) (Head k l) → A
   unfolding record_verdict in_place no
-  go_head k l g = not_is (test_at at 13 false (or_first _ _ g.fine))
+  go_head k l g = not_is (test_at at Misplaced false (or_first _ _ g.fine))
 
 -- sizes that are not refused
 pub few_facts : (n : ℕ) → wrong_facts n ≡ false → n ≤ 256
@@ -225,8 +178,8 @@ module _ (room : ℕ → Bool) (n m : ℕ) where
   head_goes f s r = record {
     written = head_writable {n = n} {m = m} (omega (arith, few_facts n f)) (omega (arith, few_steps m s));
     fine =
-        or_fine _ _ (at_fine 0 13 refl)
-        (skip_fine _ (at_fine 0 1 f) ∙ skip_fine _ (at_fine 0 2 s) ∙ skip_fine [] (at_test 0 6 r) ∙ none_left);
+        or_fine _ _ (at_fine 0 Misplaced refl)
+        (skip_fine _ (at_fine 0 FactCount f) ∙ skip_fine _ (at_fine 0 StepCount s) ∙ skip_fine [] (at_test 0 ShortResult r) ∙ none_left);
   }
 
   go_first : Goes room begin (Head n m) → (wrong_facts n ≡ false) × (wrong_steps m ≡ false) × Is (room m)
@@ -234,7 +187,7 @@ module _ (room : ℕ → Bool) (n m : ℕ) where
   go_first g =
       let numbers = or_second _ _ g.fine in
       let sizes = fine_rest _ _ numbers in
-      (fine_at 0 1 _ (fine_first _ _ numbers), fine_at 0 2 _ (fine_first _ _ sizes), test_at 0 6 _ (fine_first _ _ (fine_rest _ _ sizes)))
+      (fine_at 0 FactCount _ (fine_first _ _ numbers), fine_at 0 StepCount _ (fine_first _ _ sizes), test_at 0 ShortResult _ (fine_first _ _ (fine_rest _ _ sizes)))
 
 -- ---- contents that fit are records that follow
 
@@ -296,10 +249,10 @@ follows_parted room at n m b (next {r = Step cost} {rs} h g fs) =
       blocks = both_true _ _ (both_true _ _ (no_true _ (below_false 65535 cost s.0)) parts) p.blocks;
       count = omega (arith, p.count);
     }
-follows_parted room at n m b (next {r = Names kind f} {rs} h g fs) =
+follows_parted room at n m b (next {r = Names part f} {rs} h g fs) =
     let p = follows_parted room (at + 3) n m b fs in record {
-      is = ap (λ l. Names kind f ∷ l) p.is;
-      firsts = both_true _ _ (go_names room at n m b kind f g) p.firsts;
+      is = ap (λ l. Names part f ∷ l) p.is;
+      firsts = both_true _ _ (go_names room at n m b part f g) p.firsts;
       blocks = p.blocks;
       count = p.count;
     }
@@ -308,10 +261,10 @@ follows_parted room at n m b (next {r = Names kind f} {rs} h g fs) =
 pub follows_contents : (room : ℕ → Bool) {rs : List Record} → Follows room begin rs
     → (rs ≡ records_of (contents_of rs)) × Is (fits (contents_of rs)) × Is (room (length (contents_of rs).blocks))
 unfolding contents_of fits fits_after in_place fact_in_place record_verdict both no
-follows_contents room (last g) = not_is (test_at 0 13 false (or_first _ _ g.fine))
+follows_contents room (last g) = not_is (test_at 0 Misplaced false (or_first _ _ g.fine))
 follows_contents room (next {r = End} h g fs) = absurd (h refl)
-follows_contents room (next {r = Step cost} h g fs) = not_is (test_at 0 13 false (or_first _ _ g.fine))
-follows_contents room (next {r = Names kind f} h g fs) = not_is (test_at 0 13 false (or_first _ _ g.fine))
+follows_contents room (next {r = Step cost} h g fs) = not_is (test_at 0 Misplaced false (or_first _ _ g.fine))
+follows_contents room (next {r = Names part f} h g fs) = not_is (test_at 0 Misplaced false (or_first _ _ g.fine))
 follows_contents room (next {r = Head n m} {rs} h g fs) =
     let p = follows_parted room 5 n m 0 fs in
     let sizes = go_first room n m g in

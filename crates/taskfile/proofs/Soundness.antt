@@ -7,20 +7,19 @@ use mathlib.Core.List.{List, [], ◌∷◌}
 use native.Mathlib.Omega.{arith}
 use lib.ListN.{length, length-append}
 use Rattle.sets.specs.Tests.{Is}
-use Rattle.sets.proofs.Tests.{both_l, both_r, no_false, below_false, below_not}
-use Rattle.task.specs.declared.verdict.Verdict.TheVariants.{Fine}
+use Rattle.sets.proofs.Tests.{below_false, below_not}
+use Rattle.std.specs.Prelude.{Ok}
+use Rattle.task.specs.declared.refusal.Fault.TheVariants.{FileLength}
 use Rattle.taskfile.specs.declared.format.Record.{Record}
-use Rattle.taskfile.specs.declared.format.Record.TheVariants.{Head}
-use Rattle.taskfile.specs.declared.format.Found.TheVariants.{Whole}
-use Rattle.taskfile.specs.Records.{longest_file, record_bytes, file_bytes, found_at, file_records}
-use Rattle.taskfile.specs.Sound.{Contents, Sound, records_of, fits}
+use Rattle.taskfile.specs.Records.{longest_file, record_bytes, file_bytes, file_records}
+use Rattle.taskfile.specs.Sound.{Contents, Sound, records_of}
 use Rattle.taskfile.specs.Meaning.{contents_of, contents_in}
 use Rattle.taskfile.specs.Judging.{begin, file_verdict}
 use Rattle.taskfile.proofs.Records.{size_is}
 use Rattle.taskfile.proofs.Refusing.{at_fine, fine_at, or_fine, or_first, or_second}
-use Rattle.taskfile.proofs.Bytes.{Bytes, head_writable, found_record, size_some}
+use Rattle.taskfile.proofs.Bytes.{Bytes, size_some}
 use Rattle.taskfile.proofs.Following.{follows_fine, follows_found, fine_follows}
-use Rattle.taskfile.proofs.Contents.{contents_back, records_as, fits_follow, follows_contents, few_facts, few_steps}
+use Rattle.taskfile.proofs.Contents.{contents_back, fits_follow, follows_contents}
 
 -- ---- a sound file
 
@@ -43,19 +42,11 @@ module _ {file : List ℕ} {c : Contents} (sound : Sound file c) where
   unfolding contents_in
   sound_contents = ap contents_of sound_records ∙ contents_back c
 
-  -- its head is found first
-  pub sound_head : found_at file 0 ≡ Whole (Head c.facts (length c.blocks))
-  unfolding file_bytes fits
-  sound_head =
-      let facts = few_facts c.facts (no_false _ (both_l _ _ sound.fit)) in
-      let steps = few_steps (length c.blocks) (no_false _ (both_l _ _ (both_r _ _ sound.fit))) in
-      found_record file 0 (head_writable {n = c.facts} {m = length c.blocks} (omega arith) (omega arith)) _ (sound.bytes ∙ ap file_bytes (records_as c))
-
 -- it is judged fine where there is room for its steps
-pub sound_fine : (room : ℕ → Bool) {file : List ℕ} {c : Contents} → Sound file c → Is (room (length c.blocks)) → file_verdict room file ≡ Fine
+pub sound_fine : (room : ℕ → Bool) {file : List ℕ} {c : Contents} → Sound file c → Is (room (length c.blocks)) → file_verdict room file ≡ Ok tt
 unfolding file_verdict
 sound_fine room {file} {c} sound fit =
-    or_fine _ _ (at_fine longest_file 16 (below_false longest_file (length file) sound.short))
+    or_fine _ _ (at_fine longest_file FileLength (below_false longest_file (length file) sound.short))
     (follows_fine room file (fits_follow room c sound.fit fit) sound.bytes (length file + 1) (omega (arith, enough sound)))
 
 -- a file has one contents
@@ -68,14 +59,14 @@ records_unique s t = ap records_of (sound_unique s t)
 -- ---- the reader accepts exactly the sound files that fit
 
 module _ (room : ℕ → Bool) (file : List ℕ) (bytes : Bytes file) where
-  pub fine_sound : file_verdict room file ≡ Fine → Sound file (contents_in file) × Is (room (length (contents_in file).blocks))
+  pub fine_sound : file_verdict room file ≡ Ok tt → Sound file (contents_in file) × Is (room (length (contents_in file).blocks))
   unfolding file_verdict
   fine_sound e =
       let found = fine_follows room file bytes (length file + 1) begin (or_second _ _ e) in
       let parts = follows_contents room found.1 in
-      let short = below_not longest_file (length file) (fine_at longest_file 16 _ (or_first _ _ e)) in
+      let short = below_not longest_file (length file) (fine_at longest_file FileLength _ (or_first _ _ e)) in
       let sound : Sound file (contents_of found.0) = record { short = short; bytes = found.2 ∙ ap file_bytes parts.0; fit = parts.1 } in
       rw (sound_contents sound) (sound, parts.2)
 
-  pub accepts : (file_verdict room file ≡ Fine) ↔ ((c : Contents) × Sound file c × Is (room (length c.blocks)))
+  pub accepts : (file_verdict room file ≡ Ok tt) ↔ ((c : Contents) × Sound file c × Is (room (length c.blocks)))
   accepts = (λ e. (contents_in file, (fine_sound e).0, (fine_sound e).1), λ s. sound_fine room s.1 s.2)

@@ -4,9 +4,11 @@ use Rattle.sets.specs.Tests.{both, either, same}
 use Rattle.sets.specs.Sets.{Set}
 use Rattle.sets.specs.Words.{words_of, table_of}
 use Rattle.task.specs.Tables.{Tables, tables}
+use Rattle.taskfile.specs.declared.format.Part.{Part}
+use Rattle.taskfile.specs.declared.format.Part.TheVariants.{Start, Goal, Needs, Sets, Clears}
 use Rattle.taskfile.specs.declared.format.Record.{Record}
 use Rattle.taskfile.specs.declared.format.Record.TheVariants.{End, Head, Step, Names}
-use Rattle.taskfile.specs.Records.{file_records}
+use Rattle.taskfile.specs.Records.{part_byte, file_records}
 use Rattle.taskfile.specs.Sound.{Naming, Block, Contents}
 
 -- ---- what stands between head and end
@@ -14,7 +16,7 @@ use Rattle.taskfile.specs.Sound.{Naming, Block, Contents}
 -- the facts named up to the next record of another kind
 unfoldable pub first_namings : List Record → List Naming
 first_namings [] = []
-first_namings (Names kind f ∷ rs) = record { kind = kind; fact = f } ∷ first_namings rs
+first_namings (Names part f ∷ rs) = record { part = part; fact = f } ∷ first_namings rs
 first_namings (End ∷ rs) = []
 first_namings (Head n m ∷ rs) = []
 first_namings (Step cost ∷ rs) = []
@@ -23,7 +25,7 @@ first_namings (Step cost ∷ rs) = []
 unfoldable pub blocks_in : List Record → List Block
 blocks_in [] = []
 blocks_in (Step cost ∷ rs) = record { cost = cost; parts = first_namings rs } ∷ blocks_in rs
-blocks_in (Names kind f ∷ rs) = blocks_in rs
+blocks_in (Names part f ∷ rs) = blocks_in rs
 blocks_in (End ∷ rs) = blocks_in rs
 blocks_in (Head n m ∷ rs) = blocks_in rs
 
@@ -32,7 +34,7 @@ contents_of [] = record { facts = 0; firsts = []; blocks = [] }
 contents_of (Head n m ∷ rs) = record { facts = n; firsts = first_namings rs; blocks = blocks_in rs }
 contents_of (End ∷ rs) = record { facts = 0; firsts = []; blocks = [] }
 contents_of (Step cost ∷ rs) = record { facts = 0; firsts = []; blocks = [] }
-contents_of (Names kind f ∷ rs) = record { facts = 0; firsts = []; blocks = [] }
+contents_of (Names part f ∷ rs) = record { facts = 0; firsts = []; blocks = [] }
 
 unfoldable pub contents_in : List ℕ → Contents
 contents_in file = contents_of (file_records file)
@@ -44,9 +46,9 @@ unfoldable pub some_of : {A : Type 0} → (A → Bool) → List A → Bool
 some_of p [] = false
 some_of p (a ∷ rest) = either (p a) (some_of p rest)
 
--- the facts named by records of that kind
-unfoldable pub named_for : ℕ → List Naming → Set
-named_for kind namings f = some_of (λ g. both (same g.kind kind) (same g.fact f)) namings
+-- the facts named for that part
+unfoldable pub named_for : Part → List Naming → Set
+named_for part namings f = some_of (λ g. both (same (part_byte g.part) (part_byte part)) (same g.fact f)) namings
 
 -- what stands after the step of that number
 unfoldable pub parts_of : List Block → ℕ → List Naming
@@ -58,21 +60,21 @@ unfoldable pub costs_of : List Block → List ℕ
 costs_of [] = []
 costs_of (b ∷ bs) = b.cost ∷ costs_of bs
 
--- four words a step: the facts that records of that kind name for it
-unfoldable pub step_table : ℕ → List Block → List ℕ
-step_table kind blocks = table_of 4 (length blocks) (λ s. named_for kind (parts_of blocks s))
+-- four words a step: the facts that are named for that part of it
+unfoldable pub step_table : Part → List Block → List ℕ
+step_table part blocks = table_of 4 (length blocks) (λ s. named_for part (parts_of blocks s))
 
 unfoldable pub contents_tables : Contents → Tables
 contents_tables c =
     tables
     c.facts
     (length c.blocks)
-    (step_table 5 c.blocks)
-    (step_table 6 c.blocks)
-    (step_table 7 c.blocks)
+    (step_table Needs c.blocks)
+    (step_table Sets c.blocks)
+    (step_table Clears c.blocks)
     (costs_of c.blocks)
-    (words_of 4 (named_for 2 c.firsts))
-    (words_of 4 (named_for 3 c.firsts))
+    (words_of 4 (named_for Start c.firsts))
+    (words_of 4 (named_for Goal c.firsts))
 
 -- the task that a sound file stands for
 unfoldable pub file_tables : List ℕ → Tables

@@ -1,14 +1,36 @@
 -- The records of a task file and their bytes, as document 01's table has them.
-use Rattle.std.specs.Prelude.{ℕ, zero, suc, ◌+◌, ◌*◌, ◌/◌, ◌%◌, List, [], ◌∷◌, ◌++◌, length, get_or}
-use Rattle.sets.specs.Tests.{below, same, pick}
+use Rattle.std.specs.Prelude.{ℕ, zero, suc, ◌+◌, ◌*◌, ◌/◌, ◌%◌, ◌==◌, if◌then◌else◌, Bool, true, false, List, [], ◌∷◌, ◌++◌, length, get_or, Result, Ok, Err}
+use Rattle.sets.specs.Tests.{below, pick}
+use Rattle.task.specs.Refusal.{refusal}
+use Rattle.task.specs.declared.refusal.Fault.TheVariants.{RecordKind, CutOff}
+use Rattle.task.specs.declared.refusal.Refusal.{Refusal}
+use Rattle.taskfile.specs.declared.format.Part.{Part}
+use Rattle.taskfile.specs.declared.format.Part.TheVariants.{Start, Goal, Needs, Sets, Clears}
 use Rattle.taskfile.specs.declared.format.Record.{Record}
 use Rattle.taskfile.specs.declared.format.Record.TheVariants.{End, Head, Step, Names}
-use Rattle.taskfile.specs.declared.format.Found.{Found}
-use Rattle.taskfile.specs.declared.format.Found.TheVariants.{Whole, Unknown, Broken}
+use Rattle.taskfile.specs.declared.kind.Kind.{Kind}
+use Rattle.taskfile.specs.declared.kind.Kind.TheVariants as kinds
+use Rattle.taskfile.specs.declared.kind.UnknownKind.{UnknownKind}
 
 -- the most bytes that a file has; `Record::FILE`
 abbrev pub longest_file : ℕ
 longest_file = 65535
+
+-- start and goal are named before the first step, needs, sets and clears after one
+abbrev pub is_first : Part → Bool
+is_first Start = true
+is_first Goal = true
+is_first Needs = false
+is_first Sets = false
+is_first Clears = false
+
+-- the kind byte of a record that names a fact for that part
+abbrev pub part_byte : Part → ℕ
+part_byte Start = 2
+part_byte Goal = 3
+part_byte Needs = 5
+part_byte Sets = 6
+part_byte Clears = 7
 
 -- a number as so many bytes, the lowest first
 unfoldable pub little_endian : ℕ → ℕ → List ℕ
@@ -20,14 +42,14 @@ unfoldable pub record_bytes : Record → List ℕ
 record_bytes End = 0 ∷ []
 record_bytes (Head n m) = 1 ∷ little_endian 2 n ++ little_endian 2 m
 record_bytes (Step cost) = 4 ∷ little_endian 4 cost
-record_bytes (Names kind f) = kind ∷ little_endian 2 f
+record_bytes (Names part f) = part_byte part ∷ little_endian 2 f
 
 -- how many there are: `size_is` in proofs/Records.antt
 abbrev pub size_of : Record → ℕ
 size_of End = 1
 size_of (Head n m) = 5
 size_of (Step cost) = 5
-size_of (Names kind f) = 3
+size_of (Names part f) = 3
 
 unfoldable pub file_bytes : List Record → List ℕ
 file_bytes [] = []
@@ -38,35 +60,53 @@ unfoldable pub number_at : ℕ → List ℕ → ℕ → ℕ
 number_at zero file at = 0
 number_at (suc k) file at = get_or file at 0 + 256 * number_at k file (suc at)
 
+-- the kind of a first byte; none from 8 on
+abbrev pub kind_of : ℕ → Result Kind UnknownKind
+kind_of byte =
+    if byte == 0 then Ok kinds.End
+    else (if byte == 1 then Ok kinds.Head
+    else (if byte == 2 then Ok (kinds.Names Start)
+    else (if byte == 3 then Ok (kinds.Names Goal)
+    else (if byte == 4 then Ok kinds.Step
+    else (if byte == 5 then Ok (kinds.Names Needs)
+    else (if byte == 6 then Ok (kinds.Names Sets)
+    else (if byte == 7 then Ok (kinds.Names Clears)
+    else Err (record { 0 = byte }))))))))
+
 -- how many bytes follow a kind
-unfoldable pub body_length : ℕ → ℕ
-body_length kind = pick (same kind 0) 0 (pick (same kind 1) 4 (pick (same kind 4) 4 2))
+unfoldable pub body_length : Kind → ℕ
+body_length kinds.End = 0
+body_length kinds.Head = 4
+body_length kinds.Step = 4
+body_length (kinds.Names part) = 2
 
--- the record of a kind below 8 whose body stands from an offset on
-unfoldable pub record_of : ℕ → List ℕ → ℕ → Record
-record_of kind file at =
-    pick (same kind 0) End
-    (pick (same kind 1) (Head (number_at 2 file at) (number_at 2 file (at + 2)))
-    (pick (same kind 4) (Step (number_at 4 file at)) (Names kind (number_at 2 file at))))
+-- the record of a kind whose body stands from an offset on
+unfoldable pub record_of : Kind → List ℕ → ℕ → Record
+record_of kinds.End file at = End
+record_of kinds.Head file at = Head (number_at 2 file at) (number_at 2 file (at + 2))
+record_of kinds.Step file at = Step (number_at 4 file at)
+record_of (kinds.Names part) file at = Names part (number_at 2 file at)
 
--- what stands at an offset below the file's length
-unfoldable pub found_at : List ℕ → ℕ → Found
-found_at file at =
-    let kind = get_or file at 0 in
-    pick (below kind 8) (pick (below (length file) (suc at + body_length kind)) Broken (Whole (record_of kind file (suc at)))) Unknown
+-- what stands at an offset below the file's length: a record; 11 for a kind that there is not; 12 for a record that the file ends inside of
+unfoldable pub found_as : List ℕ → ℕ → Result Kind UnknownKind → Result Record Refusal
+found_as file at (Ok kind) =
+    pick (below (length file) (suc at + body_length kind)) (Err (refusal CutOff at)) (Ok (record_of kind file (suc at)))
+found_as file at (Err unknown) = Err (refusal RecordKind at)
+
+unfoldable pub found_at : List ℕ → ℕ → Result Record Refusal
+found_at file at = found_as file at (kind_of (get_or file at 0))
 
 -- nothing follows an end
 unfoldable pub after_record : List Record → Record → List Record
 after_record rest End = []
 after_record rest (Head n m) = rest
 after_record rest (Step cost) = rest
-after_record rest (Names kind f) = rest
+after_record rest (Names part f) = rest
 
 -- the records from an offset on, at most k of them: up to an end, or up to what is no whole record
-unfoldable pub records_on : (ℕ → List Record) → ℕ → Found → List Record
-records_on rest at Unknown = []
-records_on rest at Broken = []
-records_on rest at (Whole r) = r ∷ after_record (rest (at + size_of r)) r
+unfoldable pub records_on : (ℕ → List Record) → ℕ → Result Record Refusal → List Record
+records_on rest at (Ok r) = r ∷ after_record (rest (at + size_of r)) r
+records_on rest at (Err r) = []
 
 unfoldable pub records_in : ℕ → List ℕ → ℕ → List Record
 records_in zero file at = []

@@ -1,16 +1,17 @@
 -- A sound file, said without a judge: the bytes of a head, start and goal facts, as many steps as the head says, each with its cost
 -- and its facts, and an end, whose numbers fit.
 use Rattle.std.specs.Prelude.{ℕ, ◌≤◌, ◌≡◌, Bool, true, List, [], ◌∷◌, ◌++◌, length}
-use Rattle.sets.specs.Tests.{Is, no, both, either, below, same}
+use Rattle.sets.specs.Tests.{Is, no, both, below}
 use Rattle.task.specs.Limits.{limits}
 use Rattle.task.specs.Check.{wrong_facts, wrong_steps}
+use Rattle.taskfile.specs.declared.format.Part.{Part}
 use Rattle.taskfile.specs.declared.format.Record.{Record}
 use Rattle.taskfile.specs.declared.format.Record.TheVariants.{End, Head, Step, Names}
-use Rattle.taskfile.specs.Records.{longest_file, file_bytes}
+use Rattle.taskfile.specs.Records.{is_first, longest_file, file_bytes}
 
--- a fact, with the kind that says what it is named for
+-- a fact, with what it is named for
 pub record Naming : Type 0 where
-  pub kind : ℕ
+  pub part : Part
   pub fact : ℕ
 
 -- a step as a file has it: its cost, and the records after it up to the next step or the end
@@ -26,7 +27,7 @@ pub record Contents : Type 0 where
 
 unfoldable pub naming_records : List Naming → List Record
 naming_records [] = []
-naming_records (g ∷ rest) = Names g.kind g.fact ∷ naming_records rest
+naming_records (g ∷ rest) = Names g.part g.fact ∷ naming_records rest
 
 unfoldable pub block_records : List Block → List Record
 block_records [] = []
@@ -36,13 +37,13 @@ block_records (b ∷ bs) = Step b.cost ∷ naming_records b.parts ++ block_recor
 unfoldable pub records_of : Contents → List Record
 records_of c = Head c.facts (length c.blocks) ∷ naming_records c.firsts ++ block_records c.blocks ++ End ∷ []
 
--- start (2) or goal (3), and a fact below n
+-- start or goal, and a fact below n
 unfoldable pub first_fits : ℕ → Naming → Bool
-first_fits n g = both (either (same g.kind 2) (same g.kind 3)) (below g.fact n)
+first_fits n g = both (is_first g.part) (below g.fact n)
 
--- needs (5), sets (6) or clears (7), and a fact below n
+-- needs, sets or clears, and a fact below n
 unfoldable pub part_fits : ℕ → Naming → Bool
-part_fits n g = both (either (same g.kind 5) (either (same g.kind 6) (same g.kind 7))) (below g.fact n)
+part_fits n g = both (no (is_first g.part)) (below g.fact n)
 
 unfoldable pub all_of : {A : Type 0} → (A → Bool) → List A → Bool
 all_of p [] = true

@@ -1,12 +1,12 @@
-// What the judge goes by: the room for a task, where it is in the file, and what comes of one record.
+// What the judge goes by: the room for a task, and where it is in the file.
 ghost use Rattle.std.specs.Prelude.{◌≡◌, ◌≤◌};
-ghost use Rattle.taskfile.specs.Judging.{begin};
+ghost use Rattle.taskfile.specs.Judging.{begin, facts_of, steps_of};
 ghost use Rattle.taskfile.specs.Answer.{fits_in};
 
-use task::Verdict;
+use task::Sizes;
 
-// How many words or costs the lent tables have room for.
-#[derive(Clone, Copy)]
+/// How many words or costs the lent tables have room for.
+#[derive(Clone, Copy, Debug, PartialEq, Eq)]
 pub struct Room {
     pub needs: usize,
     pub sets: usize,
@@ -16,64 +16,55 @@ pub struct Room {
     pub goal: usize,
 }
 
-// An offset in a file, with what the records before it say: the head's numbers, if it has been read,
-// and how many steps have begun.
-#[derive(Clone, Copy)]
+/// An offset in a file, with what the records before it say: the head's numbers, if it has been read,
+/// and how many steps have begun.
+#[derive(Clone, Copy, Debug, PartialEq, Eq)]
 pub struct Cursor {
     pub at: usize,
-    pub headed: bool,
-    pub facts: usize,
-    pub steps: usize,
+    pub head: Option<Sizes>,
     pub begun: usize,
 }
 
-// What comes of one record: the cursor after it, or the verdict on the file.
-#[derive(Clone, Copy)]
-pub enum Judged {
-    On(Cursor),
-    Over(Verdict),
-}
-
 impl Room {
-    // Whether the tables of a task of m steps fit.
+    /// Whether the tables of a task of m steps fit.
+    #[tactic(auto, unfolding(crate::specs::Answer::fits_in, sets::specs::Tests::both, sets::specs::Tests::no, sets::specs::Tests::below))]
     pub(crate) fn fits(self, m: usize) -> bool
         requires { m ≤ 1024 }
         ensures { result ≡ fits_in self m }
     {
         let words = 4 * m;
-        if self.needs < words {
-            return false;
-        }
-        if self.sets < words {
-            return false;
-        }
-        if self.clears < words {
-            return false;
-        }
-        if self.costs < m {
-            return false;
-        }
-        if self.start < 4 {
-            return false;
-        }
-        if self.goal < 4 {
-            return false;
-        }
-        true
+        self.needs >= words
+            && self.sets >= words
+            && self.clears >= words
+            && self.costs >= m
+            && self.start >= 4
+            && self.goal >= 4
     }
 }
 
 impl Cursor {
-    // Before the first record.
+    /// Before the first record.
     pub fn begin() -> Cursor
         ensures { result ≡ begin }
     {
         Cursor {
             at: 0,
-            headed: false,
-            facts: 0,
-            steps: 0,
+            head: None,
             begun: 0,
         }
+    }
+
+    /// How many facts the head says that there are; 0 before it.
+    pub(crate) fn facts(self) -> usize
+        ensures { result ≡ facts_of self }
+    {
+        self.head.map_or(0, |head| head.facts)
+    }
+
+    /// How many steps the head says that there are; 0 before it.
+    pub(crate) fn steps(self) -> usize
+        ensures { result ≡ steps_of self }
+    {
+        self.head.map_or(0, |head| head.steps)
     }
 }

@@ -1,106 +1,57 @@
-// Filling the tables by the records of a file, from an offset on.
-ghost use Rattle.std.specs.Prelude.{◌≡◌};
-ghost use Rattle.sets.specs.Words.{words_of, with_row};
-ghost use Rattle.task.specs.declared.verdict.Verdict.TheVariants.{Fine};
-ghost use Rattle.taskfile.specs.Records.{found_at};
-ghost use Rattle.taskfile.specs.Meaning.{named_for, step_table, costs_of};
+// Filling the tables of the steps by the records of a file.
+ghost use Rattle.std.specs.Prelude.{◌≡◌, Ok};
+ghost use Rattle.sets.specs.Words.{words_of};
+ghost use Rattle.taskfile.specs.declared.format.Part.TheVariants.{Needs, Sets, Clears};
+ghost use Rattle.taskfile.specs.Meaning.{first_namings, blocks_in, named_for, step_table, costs_of};
 ghost use Rattle.taskfile.specs.Answer.{read_into};
-ghost use Rattle.taskfile.specs.Workers.{namings_from, blocks_from, sizes_of, RoomFor};
+ghost use Rattle.taskfile.specs.Workers.{records_left, RoomFor, SameTables};
 
-use crate::format::{Found, Record, record_at};
+use crate::format::{Part, Record};
+use crate::iter::Records;
 use sets::Facts;
-use task::Task;
 
-// Where the records after a head begin.
-pub(crate) const BODY: usize = 5;
-
-// The sizes of the task, as the head of the file says them; 0 where it begins with no head.
-pub(crate) fn head_sizes(file: &[u8]) -> Task
-    ensures { result ≡ sizes_of (found_at file.now 0) }
-{
-    let found = record_at(file, 0);
-    let Found::Whole(first) = found else {
-        return Task { facts: 0, steps: 0 };
-    };
-    let Record::Head(n, m) = first else {
-        return Task { facts: 0, steps: 0 };
-    };
-    Task {
-        facts: n as usize,
-        steps: m as usize,
-    }
+/// The tables that the steps go into: what each needs, sets and clears, and what it costs.
+#[derive(Drop)]
+pub(crate) struct StepTables<'a> {
+    pub needs: &'a mut [u64],
+    pub sets: &'a mut [u64],
+    pub clears: &'a mut [u64],
+    pub costs: &'a mut [u32],
 }
 
-// The facts that records of that kind name from an offset on, up to the next record that names none.
-pub(crate) fn facts_named(file: &[u8], from: usize, kind: u8) -> Facts
-    ensures { result.words ≡ words_of 4 (named_for kind (namings_from file.now from)) }
+/// The facts named for that part, up to the next record that names none.
+pub(crate) fn facts_named(records: Records<'_>, part: Part) -> Facts
+    ensures { result.words ≡ words_of 4 (named_for part (first_namings (records_left records.entry))) }
 {
     let mut facts = Facts::empty();
-    let mut at = from;
-    loop {
-        let found = record_at(file, at);
-        let Found::Whole(next) = found else {
-            return facts;
+    for record in records {
+        let Record::Names(own, fact) = record else {
+            break;
         };
-        let Record::Names(own, fact) = next else {
-            return facts;
-        };
-        if own == kind {
-            facts = facts.with(fact as usize);
+        if own == part {
+            facts = facts.with(usize::from(fact));
         }
-        at += 3;
     }
+    facts
 }
 
-// Writes what the steps from an offset on need, set, clear and cost, where there is room for them all.
-pub(crate) fn fill_steps(
-    file: &[u8],
-    from: usize,
-    needs: &mut [u64],
-    sets: &mut [u64],
-    clears: &mut [u64],
-    costs: &mut [u32],
-)
-    requires { RoomFor (blocks_from file.now from) needs.old sets.old clears.old costs.old }
-    ensures needs { needs.new ≡ read_into Fine (step_table 5 (blocks_from file.now from)) needs.old }
-    ensures sets { sets.new ≡ read_into Fine (step_table 6 (blocks_from file.now from)) sets.old }
-    ensures clears { clears.new ≡ read_into Fine (step_table 7 (blocks_from file.now from)) clears.old }
-    ensures costs { costs.new ≡ read_into Fine (costs_of (blocks_from file.now from)) costs.old }
+/// Writes what each step needs, sets, clears and costs, where there is room for them all.
+pub(crate) fn fill_steps(mut records: Records<'_>, tables: &mut StepTables<'_>)
+    requires { RoomFor (blocks_in (records_left records)) tables.old.needs.now tables.old.sets.now tables.old.clears.now tables.old.costs.now }
+    ensures same { SameTables tables.old tables.new }
+    ensures needs { tables.new.needs.now ≡ read_into (Ok tt) (step_table Needs (blocks_in (records_left records.entry))) tables.old.needs.now }
+    ensures sets { tables.new.sets.now ≡ read_into (Ok tt) (step_table Sets (blocks_in (records_left records.entry))) tables.old.sets.now }
+    ensures clears { tables.new.clears.now ≡ read_into (Ok tt) (step_table Clears (blocks_in (records_left records.entry))) tables.old.clears.now }
+    ensures costs { tables.new.costs.now ≡ read_into (Ok tt) (costs_of (blocks_in (records_left records.entry))) tables.old.costs.now }
 {
-    let mut step: usize = 0;
-    let mut at = from;
-    loop {
-        let found = record_at(file, at);
-        let Found::Whole(next) = found else {
-            return;
-        };
-        if let Record::End = next {
-            return;
-        }
-        at += next.size();
-        if let Record::Step(cost) = next {
-            write_sets(file, at, step, needs, sets, clears);
-            costs[step] = cost;
+    let mut step = 0;
+    while let Some(record) = records.next() {
+        if let Record::Step(cost) = record {
+            facts_named(records, Part::Needs).put_row(tables.needs, step);
+            facts_named(records, Part::Sets).put_row(tables.sets, step);
+            facts_named(records, Part::Clears).put_row(tables.clears, step);
+            tables.costs[step] = cost;
             step += 1;
         }
     }
-}
-
-// Writes the facts named from an offset on as what a step needs, sets and clears, in tables that have
-// its row.
-fn write_sets(
-    file: &[u8],
-    at: usize,
-    step: usize,
-    needs: &mut [u64],
-    sets: &mut [u64],
-    clears: &mut [u64],
-)
-    ensures needs { needs.new ≡ with_row 4 step (words_of 4 (named_for 5 (namings_from file.now at))) needs.old }
-    ensures sets { sets.new ≡ with_row 4 step (words_of 4 (named_for 6 (namings_from file.now at))) sets.old }
-    ensures clears { clears.new ≡ with_row 4 step (words_of 4 (named_for 7 (namings_from file.now at))) clears.old }
-{
-    facts_named(file, at, 5).put_row(needs, step);
-    facts_named(file, at, 6).put_row(sets, step);
-    facts_named(file, at, 7).put_row(clears, step);
 }

@@ -8,11 +8,13 @@
 mod cursor;
 mod fill;
 mod format;
+mod iter;
 mod judge;
+mod kind;
 mod one_record;
 mod read;
 
-pub use cursor::{Cursor, Judged, Room};
-pub use format::{Found, Record, record_at};
+pub use cursor::{Cursor, Room};
+pub use format::{Part, Record, record_at};
 pub use judge::{judge_file, judge_next};
-pub use read::{Reading, read_task};
+pub use read::read_task;

@@ -1,103 +1,95 @@
 // The verdict on one record, by the cursor: 13, 1, 2, 6, 5, 14, 15.
 ghost use Rattle.std.specs.Prelude.{◌≡◌};
 ghost use Rattle.taskfile.specs.declared.format.Record.TheVariants.{End, Head, Step, Names};
-ghost use Rattle.taskfile.specs.Judging.{in_place, fact_in_place, numbers_verdict, record_verdict};
+ghost use Rattle.taskfile.specs.Judging.{in_place, numbers_verdict, record_verdict};
 ghost use Rattle.taskfile.specs.Answer.{fits_in};
 
 use crate::cursor::{Cursor, Room};
-use crate::format::Record;
-use task::{Task, Verdict};
+use crate::format::{Part, Record};
+use task::{Fault, Refusal, Task};
 
-// The verdict on one record: 13 before anything else.
-pub(crate) fn judge_record(room: Room, cursor: Cursor, item: Record) -> Verdict
+/// Whether a record is sound at the cursor: 13 before anything else.
+#[tactic(auto, unfolding(crate::specs::Judging::record_verdict, crate::specs::Judging::refused_at, task::specs::Refusal::or_else, sets::specs::Tests::no))]
+pub(crate) fn judge_record(room: Room, cursor: Cursor, item: Record) -> Result<(), Refusal>
     ensures { result ≡ record_verdict (fits_in room) cursor item }
 {
     if !in_place(cursor, item) {
-        return Verdict::Refused(13, cursor.at);
+        return Err(Fault::Misplaced.at(cursor.at));
     }
     match item {
         Record::End => judge_end(room, cursor),
-        Record::Head(n, m) => judge_head(room, cursor, n, m),
+        Record::Head(facts, steps) => judge_head(room, cursor, facts, steps),
         Record::Step(cost) => judge_step(room, cursor, cost),
-        Record::Names(kind, fact) => judge_fact(room, cursor, kind, fact),
+        Record::Names(part, fact) => judge_fact(room, cursor, part, fact),
     }
 }
 
-// Whether it stands where its kind may stand.
+// Whether it stands where its kind may stand: the head first and only once; start and goal after it
+// and before the first step; needs, sets and clears after a step.
+#[tactic(auto, unfolding(crate::specs::Judging::in_place, crate::specs::Judging::fact_in_place, sets::specs::Tests::no, sets::specs::Tests::both, sets::specs::Tests::pick, sets::specs::Tests::same, sets::specs::Tests::below))]
 fn in_place(cursor: Cursor, item: Record) -> bool
     ensures { result ≡ in_place cursor item }
 {
     match item {
-        Record::End => cursor.headed,
-        Record::Head(_, _) => !cursor.headed,
-        Record::Step(_) => cursor.headed,
-        Record::Names(kind, _) => fact_in_place(cursor, kind),
+        Record::Head(_, _) => cursor.head.is_none(),
+        Record::Names(part, _) => {
+            cursor.head.is_some() && part.is_first() == (cursor.begun == 0)
+        }
+        Record::Step(_) | Record::End => cursor.head.is_some(),
     }
-}
-
-// Start and goal stand after the head and before the first step; needs, sets and clears after one.
-fn fact_in_place(cursor: Cursor, kind: u8) -> bool
-    ensures { result ≡ fact_in_place cursor kind }
-{
-    if !cursor.headed {
-        return false;
-    }
-    if kind < 4 {
-        return cursor.begun == 0;
-    }
-    0 < cursor.begun
 }
 
 // 1, 2 and 6: a head's numbers.
-fn judge_head(room: Room, cursor: Cursor, n: u16, m: u16) -> Verdict
-    ensures { result ≡ numbers_verdict (fits_in room) cursor (Head n m) }
+#[tactic(auto, unfolding(crate::specs::Judging::numbers_verdict, crate::specs::Judging::refused_at, task::specs::Refusal::first_refusal, task::specs::Refusal::or_else, task::specs::Check::wrong_facts, task::specs::Check::wrong_steps, sets::specs::Tests::either, sets::specs::Tests::same, sets::specs::Tests::below, sets::specs::Tests::no))]
+fn judge_head(room: Room, cursor: Cursor, facts: u16, steps: u16) -> Result<(), Refusal>
+    ensures { result ≡ numbers_verdict (fits_in room) cursor (Head facts steps) }
 {
-    let at = cursor.at;
-    if n == 0 {
-        return Verdict::Refused(1, at);
+    let facts = usize::from(facts);
+    let steps = usize::from(steps);
+    if facts == 0 || facts > Task::FACTS {
+        return Err(Fault::FactCount.at(cursor.at));
     }
-    if Task::FACTS < n as usize {
-        return Verdict::Refused(1, at);
-    }
-    let steps = m as usize;
-    if Task::STEPS < steps {
-        return Verdict::Refused(2, at);
+    if steps > Task::STEPS {
+        return Err(Fault::StepCount.at(cursor.at));
     }
     if !room.fits(steps) {
-        return Verdict::Refused(6, at);
+        return Err(Fault::ShortResult.at(cursor.at));
     }
-    Verdict::Fine
+    Ok(())
 }
 
 // 5 and 15: a step's cost, and whether it is one too many.
-fn judge_step(room: Room, cursor: Cursor, cost: u32) -> Verdict
+#[tactic(auto, unfolding(crate::specs::Judging::numbers_verdict, crate::specs::Judging::refused_at, task::specs::Refusal::first_refusal, task::specs::Refusal::or_else, sets::specs::Tests::below, sets::specs::Tests::no))]
+fn judge_step(room: Room, cursor: Cursor, cost: u32) -> Result<(), Refusal>
     ensures { result ≡ numbers_verdict (fits_in room) cursor (Step cost) }
 {
-    if Task::COST < cost {
-        return Verdict::Refused(5, cursor.at);
+    if cost > Task::COST {
+        return Err(Fault::StepCost.at(cursor.at));
     }
-    if cursor.steps <= cursor.begun {
-        return Verdict::Refused(15, cursor.at);
+    if cursor.begun >= cursor.steps() {
+        return Err(Fault::StepRecords.at(cursor.at));
     }
-    Verdict::Fine
+    Ok(())
 }
 
 // 14: a fact's number.
-fn judge_fact(room: Room, cursor: Cursor, kind: u8, fact: u16) -> Verdict
-    ensures { result ≡ numbers_verdict (fits_in room) cursor (Names kind fact) }
+#[tactic(auto, unfolding(crate::specs::Judging::numbers_verdict, crate::specs::Judging::refused_at, sets::specs::Tests::below, sets::specs::Tests::no))]
+fn judge_fact(room: Room, cursor: Cursor, part: Part, fact: u16) -> Result<(), Refusal>
+    ensures { result ≡ numbers_verdict (fits_in room) cursor (Names part fact) }
 {
-    if cursor.facts <= fact as usize {
-        return Verdict::Refused(14, cursor.at);
+    if usize::from(fact) >= cursor.facts() {
+        return Err(Fault::RecordFact.at(cursor.at));
     }
-    Verdict::Fine
+    Ok(())
 }
 
 // 15: an end before all steps.
-fn judge_end(room: Room, cursor: Cursor) -> Verdict
+#[tactic(auto, unfolding(crate::specs::Judging::numbers_verdict, crate::specs::Judging::refused_at, sets::specs::Tests::same, sets::specs::Tests::no))]
+fn judge_end(room: Room, cursor: Cursor) -> Result<(), Refusal>
     ensures { result ≡ numbers_verdict (fits_in room) cursor End }
 {
-    if cursor.begun != cursor.steps {
-        return Verdict::Refused(15, cursor.at);
+    if cursor.begun != cursor.steps() {
+        return Err(Fault::StepRecords.at(cursor.at));
     }
-    Verdict::Fine
+    Ok(())
 }

@@ -5,21 +5,16 @@ ghost use Rattle.taskfile.specs.Meaning.{file_tables};
 ghost use Rattle.taskfile.specs.Answer.{room_of, fits_in, reading_of, read_into};
 
 use crate::cursor::Room;
-use crate::fill;
+use crate::fill::{StepTables, facts_named, fill_steps};
+use crate::format::{Part, Record};
+use crate::iter::Records;
 use crate::judge::judge_file;
-use task::{Task, Verdict};
+use task::{Refusal, Sizes};
 
-// What reading answers: the sizes of the task, or document 01's number of what is wrong with the
-// file, with its place.
-#[derive(Clone, Copy)]
-pub enum Reading {
-    Sizes(Task),
-    Refused(u8, usize),
-}
-
-// Reads a task into the tables lent: needs, sets and clears with four words a step, costs with one
-// number a step, start and goal with four words. What is lent beyond the task stays as it was, and so
-// does everything where the file is refused.
+/// Reads a task into the tables lent: needs, sets and clears with four words a step, costs with one
+/// number a step, start and goal with four words. What is lent beyond the task stays as it was, and so
+/// does everything where the file is refused.
+// Stays six slices: of a struct of them a seventh clause would have to say that each stays the caller's.
 pub fn read_task(
     file: &[u8],
     needs: &mut [u64],
@@ -28,7 +23,7 @@ pub fn read_task(
     costs: &mut [u32],
     start: &mut [u64],
     goal: &mut [u64],
-) -> Reading
+) -> Result<Sizes, Refusal>
     ensures answer { result ≡ reading_of (room_of (length needs.old) (length sets.old) (length clears.old) (length costs.old) (length start.old) (length goal.old)) file.now }
     ensures needs { needs.new ≡ read_into (file_verdict (fits_in (room_of (length needs.old) (length sets.old) (length clears.old) (length costs.old) (length start.old) (length goal.old))) file.now) (file_tables file.now).needs needs.old }
     ensures sets { sets.new ≡ read_into (file_verdict (fits_in (room_of (length needs.old) (length sets.old) (length clears.old) (length costs.old) (length start.old) (length goal.old))) file.now) (file_tables file.now).sets sets.old }
@@ -45,13 +40,27 @@ pub fn read_task(
         start: start.len(),
         goal: goal.len(),
     };
-    let verdict = judge_file(file, room);
-    if let Verdict::Refused(number, place) = verdict {
-        return Reading::Refused(number, place);
-    }
-    let from = fill::BODY;
-    fill::fill_steps(file, from, needs, sets, clears, costs);
-    fill::facts_named(file, from, 2).put_row(start, 0);
-    fill::facts_named(file, from, 3).put_row(goal, 0);
-    Reading::Sizes(fill::head_sizes(file))
+    judge_file(file, room)?;
+    let mut records = Records::new(file);
+    let Some(first) = records.next() else {
+        unreachable!("a sound file has records");
+    };
+    let Record::Head(facts, steps) = first else {
+        unreachable!("the first of them is a head");
+    };
+    fill_steps(
+        records,
+        &mut StepTables {
+            needs,
+            sets,
+            clears,
+            costs,
+        },
+    );
+    facts_named(records, Part::Start).put_row(start, 0);
+    facts_named(records, Part::Goal).put_row(goal, 0);
+    Ok(Sizes {
+        facts: usize::from(facts),
+        steps: usize::from(steps),
+    })
 }

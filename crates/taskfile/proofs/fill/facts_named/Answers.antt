@@ -1,39 +1,43 @@
-use mathlib.Core.Path.{refl, sym}
-use native.Mathlib.Omega.{arith}
-use borrow.Author.Rules.{rules}
-use Rattle.taskfile.proofs.Bytes.{whole_fits}
-use Rattle.taskfile.proofs.Walking.{stands, namings_none, namings_over}
-use Rattle.taskfile.proofs.Filling.{gather_start, gather_own, gather_other, gather_end}
+use mathlib.Core.Path.{sym, ap, ◌∙◌}
+use mathlib.Core.List.{◌∷◌}
+use denote.Enum.Bare.{same_true, same_false}
+use Rattle.sets.specs.Sets.{added}
+use Rattle.sets.specs.Words.{has, words_of}
+use Rattle.taskfile.specs.contracts.format.Part.{the_type}
+use Rattle.taskfile.specs.Workers.{records_left}
+use Rattle.taskfile.proofs.Filling.{gather_start, gather_own, gather_other, gather_end, gather_over}
 use Rattle.taskfile.proofs.fill.facts_named.Goals as goal
-use Rattle.taskfile.proofs.fill.facts_named.Goals.{then-own-kind, else-own-kind}
 
-pub loop-next-init : goal.loop-next-init
-loop-next-init c = search (rules, gather_start)
+pub loop-record-init : goal.loop-record-init
+loop-record-init c = record {
+  can = tt;
+  ends = tt;
+  gathered = gather_start c.args.part _ c.empty-facts.ensures (ap records_left c.into_iter-record-iterator.ensures.into_iter_gives);
+}
+
+pub loop-record-preserved-then-eq : goal.loop-record-preserved-then-eq
+loop-record-preserved-then-eq c = record {
+  can = tt;
+  ends = tt;
+  gathered =
+      let named = c.in-Some.ensures.steps ∙ ap (λ r. r ∷ records_left c.next.new.self) c.in-Names.is in
+      gather_own c.args.part _ c.in-Names.own c.in-Names.fact c.loop-record.invariant.gathered named
+      (same_true the_type tt _ _ (sym c.eq.ensures ∙ c.if-eq.true))
+      (c.with-facts.ensures ∙ ap (λ f. words_of 4 (added (has c.loop-record.facts.words) f)) c.from.ensures);
+}
+
+pub loop-record-preserved : goal.loop-record-preserved
+loop-record-preserved c = record {
+  can = tt;
+  ends = tt;
+  gathered =
+      let named = c.in-Some.ensures.steps ∙ ap (λ r. r ∷ records_left c.next.new.self) c.in-Names.is in
+      gather_other c.args.part _ c.in-Names.own c.in-Names.fact c.loop-record.invariant.gathered named
+      (same_false the_type _ _ (sym c.eq.ensures ∙ c.if-eq.false));
+}
+
+pub returns-in-None : goal.returns-in-None
+returns-in-None c = gather_end c.args.part _ c.loop-record.invariant.gathered c.in-None.ensures.steps.0
 
 pub returns-in_default : goal.returns-in_default
-returns-in_default c = gather_end _ _ _ _ _ (namings_none _ _ _ c.record_at-found.ensures c.in_default.not-Whole) c.loop-next.invariant
-
-pub returns-in_default-next : goal.returns-in_default-next
-returns-in_default-next c =
-    gather_end _ _ _ _ _
-    (namings_over _ _ _ (stands c.record_at-found.ensures c.in-Whole.is refl) c.in_default-next.not-Names)
-    c.loop-next.invariant
-
-pub overflow_add-at : goal.overflow_add-at
-overflow_add-at c =
-    let here = stands c.record_at-found.ensures c.in-Whole.is c.in-Names.is in
-    omega (arith, whole_fits _ _ _ (sym here))
-
-pub loop-next-smaller : goal.loop-next-smaller
-loop-next-smaller c =
-    let here = stands c.record_at-found.ensures c.in-Whole.is c.in-Names.is in
-    omega (arith, whole_fits _ _ _ (sym here))
-
-pub loop-next-preserved : goal.loop-next-preserved
-loop-next-preserved c =
-    let here = stands c.record_at-found.ensures c.in-Whole.is c.in-Names.is in
-    let inv = c.loop-next.invariant in
-    elim c.if-own-kind.branch [
-      | then-own-kind w ↦ rw w.facts-is (gather_own _ _ _ _ _ _ _ here inv w.if-own-kind.true w.with-facts.ensures)
-      | else-own-kind w ↦ rw w.facts-is (gather_other _ _ _ _ _ _ _ here inv w.if-own-kind.false)
-    ]
+returns-in_default c = gather_over c.args.part _ c.in-Some.record c.loop-record.invariant.gathered c.in-Some.ensures.steps c.in_default.not-Names

@@ -1,47 +1,37 @@
-use mathlib.Core.Path.{refl}
-use native.Mathlib.Omega.{arith}
-use borrow.Author.Rules.{rules}
-use Rattle.taskfile.proofs.Walking.{stands, goes_on, blocks_none, blocks_end, blocks_other}
+use mathlib.Core.Path.{ap, ◌∙◌}
+use mathlib.Core.List.{◌∷◌}
+use Rattle.taskfile.specs.Workers.{records_left}
 use Rattle.taskfile.proofs.Filling.{fill_skip, step_inside, fill_next, fill_end}
 use Rattle.taskfile.proofs.fill.fill_steps.Goals as goal
 
-pub returns-in_default : goal.returns-in_default
-returns-in_default c =
-    let none = blocks_none _ _ _ c.record_at-found.ensures c.in_default.not-Whole in
-    let end = fill_end _ _ _ _ _ _ c.loop-next.invariant none in
-    record { needs = end.0; sets = end.1.0; clears = end.1.1.0; costs = end.1.1.1 }
-
-pub returns-in-End : goal.returns-in-End
-returns-in-End c =
-    let here = stands c.record_at-found.ensures c.in-Whole.is c.in-End.is in
-    let end = fill_end _ _ _ _ _ _ c.loop-next.invariant (blocks_end _ _ here) in
-    record { needs = end.0; sets = end.1.0; clears = end.1.1.0; costs = end.1.1.1 }
-
-pub overflow_add-at : goal.overflow_add-at
-overflow_add-at c =
-    let on = goes_on _ _ c.record_at-found.ensures c.in-Whole.is c.size-at.ensures in
-    omega arith
-
-pub bounds-costs-step : goal.bounds-costs-step
-bounds-costs-step c =
-    step_inside _ _ _ _ _ _ c.loop-next.invariant c.record_at-found.ensures c.in-Whole.is c.in-Step.is c.size-at.ensures
+pub bounds-tables-step : goal.bounds-tables-step
+bounds-tables-step c =
+    step_inside _ _ _ _ _ c.loop-record.invariant.filling c.in-Step.cost
+    (c.in-Some.ensures.steps ∙ ap (λ r. r ∷ records_left c.next.new.self) c.in-Step.is)
     c.requires
 
-pub loop-next-smaller-in-Step : goal.loop-next-smaller-in-Step
-loop-next-smaller-in-Step c =
-    let on = goes_on _ _ c.record_at-found.ensures c.in-Whole.is c.size-at.ensures in
-    omega arith
+pub loop-record-preserved-in-Step : goal.loop-record-preserved-in-Step
+loop-record-preserved-in-Step c = record {
+  same = record {
+    needs = c.loop-record.invariant.same.needs;
+    sets = c.loop-record.invariant.same.sets;
+    clears = c.loop-record.invariant.same.clears;
+    costs = c.loop-record.invariant.same.costs;
+  };
+  filling =
+      fill_next _ _ _ _ _ c.loop-record.invariant.filling c.in-Step.cost
+      (c.in-Some.ensures.steps ∙ ap (λ r. r ∷ records_left c.next.new.self) c.in-Step.is)
+      c.requires c.facts_named.ensures c.put_row.ensures c.facts_named-in-Step.ensures c.put_row-in-Step.ensures c.facts_named-in-Step-2.ensures
+      c.put_row-in-Step-2.ensures;
+}
 
-pub loop-next-preserved-in-Step : goal.loop-next-preserved-in-Step
-loop-next-preserved-in-Step c = search (rules, fill_next)
+pub loop-record-preserved : goal.loop-record-preserved
+loop-record-preserved c = record {
+  same = c.loop-record.invariant.same;
+  filling = fill_skip _ _ _ _ _ c.loop-record.invariant.filling c.in-Some.record c.in-Some.ensures.steps c.in_default-record.not-Step;
+}
 
-pub loop-next-smaller : goal.loop-next-smaller
-loop-next-smaller c =
-    let on = goes_on _ _ c.record_at-found.ensures c.in-Whole.is c.size-at.ensures in
-    omega arith
-
-pub loop-next-preserved : goal.loop-next-preserved
-loop-next-preserved c =
-    let here = stands c.record_at-found.ensures c.in-Whole.is refl in
-    rw c.size-at.ensures
-    (fill_skip _ _ _ _ _ _ c.loop-next.invariant _ (blocks_other _ _ _ here c.in_default-next.not-End c.in_default-next-2.not-Step))
+pub returns : goal.returns
+returns c =
+    let filled = fill_end _ _ _ _ _ c.loop-record.invariant.filling c.in_default.ensures.steps.0 in
+    record { same = c.loop-record.invariant.same; needs = filled.needs_read; sets = filled.sets_read; clears = filled.clears_read; costs = filled.costs_read }

@@ -1,20 +1,13 @@
-use mathlib.Core.Path.{sym}
-use borrow.Author.Rules.{rules}
-use Rattle.taskfile.proofs.Records.{found_past, found_unknown, found_short, found_full}
+use mathlib.Core.Path.{ap, sym, ◌∙◌}
+use Rattle.std.proofs.Common.{Err}
+use Rattle.taskfile.proofs.Records.{found_past, found_unknown, found_body}
 use Rattle.taskfile.proofs.format.record_at.Goals as goal
 
-pub returns-then-file-at : goal.returns-then-file-at
-returns-then-file-at c = search (rules, found_past, found_unknown, found_short, found_full)
+pub returns-then-at-file : goal.returns-then-at-file
+returns-then-at-file c = ap Err c.at.ensures ∙ sym (found_past c.args.file.now c.args.at c.if-at-file.true)
 
-pub returns-then-kind-ge8 : goal.returns-then-kind-ge8
-returns-then-kind-ge8 c = search (rules, found_past, found_unknown, found_short, found_full)
+pub returns-in-Ok : goal.returns-in-Ok
+returns-in-Ok c = found_body c.args.file.now c.args.at c.if-at-file.false c.in-Ok.ensures c.body_at.ensures c.at-in-Ok.ensures c.ok_or.ensures.value
 
-pub returns-then-file-at-2 : goal.returns-then-file-at-2
-returns-then-file-at-2 c =
-    sym
-    (found_short _ _ _ c.if-file-at.false c.if-kind-ge8.false c.body_length.ensures c.if-file-at-2.true)
-
-pub returns : goal.returns
-returns c =
-    sym
-    (found_full _ _ _ _ c.if-file-at.false c.if-kind-ge8.false c.body_length.ensures c.if-file-at-2.false c.record_of-record.ensures)
+pub returns-in-Err : goal.returns-in-Err
+returns-in-Err c = ap Err c.at-in-Err.ensures ∙ sym (found_unknown c.args.file.now c.args.at (sym c.in-Err.ensures))

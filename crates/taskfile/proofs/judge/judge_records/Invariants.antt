@@ -5,8 +5,8 @@ use Rattle.taskfile.specs.Answer.{fits_in}
 use Rattle.taskfile.proofs.Judging.{Going}
 use Rattle.taskfile.proofs.judge.judge_records.Given as goal
 
-abbrev pub invariant-loop-cursor : goal.invariant-loop-cursor
-invariant-loop-cursor l = Going (fits_in l.room) l.file l.cursor
+abbrev pub invariant-loop-next : goal.invariant-loop-next
+invariant-loop-next l = Going (fits_in l.room) l.file l.cursor
 
-abbrev pub decreases-loop-cursor : goal.decreases-loop-cursor
-decreases-loop-cursor l = length l.file - l.cursor.at
+abbrev pub decreases-loop-next : goal.decreases-loop-next
+decreases-loop-next l = length l.file - l.cursor.at
