@@ -1,39 +1,54 @@
--- A line is its word, a blank and each number, and a line feed, written one after the other. The members of a set are written lowest first: the lowest left is
--- written and taken out, and those then left are the rest of the list.
-use Prim.Native.Nat.{ℕ, zero, suc, ◌*◌, ◌≤◌, ◌<◌}
-use mathlib.Core.Path.{◌≡◌, refl, sym, ◌∙◌}
-use mathlib.Core.List.{List, [], ◌∷◌, ◌++◌, append-nil}
+-- A line is its word, a blank and each number, and a line feed, written one after the other.
+use Prim.Native.Nat.{ℕ, zero, suc, ◌*◌, ◌^◌, ◌≤◌, ◌<◌}
+use mathlib.Core.Path.{◌≡◌, refl, sym, ap, ◌∙◌}
+use mathlib.Core.List.{List, [], ◌∷◌, ◌++◌, append-nil, append_assoc}
 use mathlib.Core.Logic.{inl, inr}
 use native.Mathlib.Omega.{arith}
 use Rattle.sets.specs.Tests.{Is}
-use Rattle.sets.specs.Sets.{Set, dropped, lowest, members}
+use Rattle.sets.specs.Sets.{Set, members}
 use Rattle.sets.specs.Words.{has, words_of}
 use Rattle.sets.proofs.Tests.{fails, compare, pick_false}
 use Rattle.sets.proofs.Words.{has_made}
-use Rattle.sets.proofs.Listing.{listing_next, listing_end, listing_below}
 use Rattle.report.specs.Text.{blank, line_feed, number_text, fields, line}
-use Rattle.report.specs.Page.{Page, written}
-use Rattle.report.proofs.Writing.{write_on}
+use Rattle.report.specs.declared.text.Page.{Page as Lent}
+use Rattle.report.specs.Writing.{Writes}
+use Rattle.report.proofs.Writing.{writes_none, writes_on, writes_as}
+use Rattle.report.proofs.Numbers.{number_decimal}
+use Rattle.std.specs.Fmt.{decimal}
 
 -- ---- fields and lines
 
-pub field_written : (n : ℕ) (p q r : Page) → q ≡ written (blank ∷ []) p → r ≡ written (number_text n) q → r ≡ written (blank ∷ number_text n) p
-field_written n p q r first rest = write_on (blank ∷ []) (number_text n) p q r first rest
+pub field_written : (n : ℕ) (digits : List ℕ) (p q r : Lent) → n < 2 ^ 64 → digits ≡ decimal n → Writes (blank ∷ []) p q → Writes digits q r
+    → Writes (blank ∷ number_text n) p r
+field_written n digits p q r fits made first rest =
+    writes_as (blank ∷ digits) (blank ∷ number_text n) p r (ap (λ (text : List ℕ). blank ∷ text) (made ∙ sym (number_decimal n fits)))
+    (writes_on (blank ∷ []) digits p q r first rest)
 
-pub fields_none : (p : Page) → p ≡ written (fields []) p
-unfolding fields written
-fields_none p = refl
-
-pub fields_more : (x : ℕ) (xs : List ℕ) (p q r : Page) → q ≡ written (blank ∷ number_text x) p → r ≡ written (fields xs) q
-    → r ≡ written (fields (x ∷ xs)) p
+pub fields_append : (a b : List ℕ) → fields (a ++ b) ≡ fields a ++ fields b
 unfolding fields
-fields_more x xs p q r first rest = write_on (blank ∷ number_text x) (fields xs) p q r first rest
+fields_append [] b = refl
+fields_append (x ∷ a) b = ap (λ (l : List ℕ). (blank ∷ number_text x) ++ l) (fields_append a b) ∙ sym (append_assoc (blank ∷ number_text x) (fields a) (fields b))
 
-pub line_written : (word numbers : List ℕ) (p q r s : Page) → q ≡ written word p → r ≡ written (fields numbers) q → s ≡ written (line_feed ∷ []) r
-    → s ≡ written (line word numbers) p
+pub fields_one : (x : ℕ) → fields (x ∷ []) ≡ blank ∷ number_text x
+unfolding fields
+fields_one x = append-nil (blank ∷ number_text x)
+
+pub fields_none : (p : Lent) → Writes (fields []) p p
+unfolding fields
+fields_none p = writes_none p
+
+pub fields_on : (a b : List ℕ) (p q r : Lent) → Writes (fields a) p q → Writes (fields b) q r → Writes (fields (a ++ b)) p r
+fields_on a b p q r first rest = writes_as (fields a ++ fields b) (fields (a ++ b)) p r (sym (fields_append a b)) (writes_on (fields a) (fields b) p q r first rest)
+
+-- one number more
+pub fields_next : (a : List ℕ) (x : ℕ) (p q r : Lent) → Writes (fields a) p q → Writes (blank ∷ number_text x) q r → Writes (fields (a ++ x ∷ [])) p r
+fields_next a x p q r first rest = fields_on a (x ∷ []) p q r first (writes_as (blank ∷ number_text x) (fields (x ∷ [])) q r (sym (fields_one x)) rest)
+
+pub line_written : (word numbers : List ℕ) (p q r s : Lent) → Writes word p q → Writes (fields numbers) q r → Writes (line_feed ∷ []) r s
+    → Writes (line word numbers) p s
 unfolding line
 line_written word numbers p q r s first middle last =
-    write_on (word ++ fields numbers) (line_feed ∷ []) p r s (write_on word (fields numbers) p q r first middle) last
+    writes_on (word ++ fields numbers) (line_feed ∷ []) p r s (writes_on word (fields numbers) p q r first middle) last
 
 -- ---- the members of a set
 
@@ -59,17 +74,3 @@ members_within (suc n) m X l inside =
 -- the members of a set of numbers below m, of which k words were made
 pub members_read : (k m : ℕ) (ws : List ℕ) (X : Set) → ws ≡ words_of k X → m ≤ k * 64 → ((s : ℕ) → Is (X s) → s < m) → members (k * 64) (has ws) ≡ members m X
 members_read k m ws X e l inside = members_made k ws X e ∙ members_within (k * 64) m X l inside
-
--- the members of k words are left to write
-pub set_end : (k : ℕ) (a : List ℕ) (f : ℕ) (p all : Page) → f ≡ lowest (k * 64) (has a) → f ≡ k * 64 → written (fields (members (k * 64) (has a))) p ≡ all
-    → p ≡ all
-unfolding fields written
-set_end k a f p all found e left = rw (listing_end (k * 64) (has a) (sym found ∙ e)) at left
-
-pub set_next : (k : ℕ) (a b : List ℕ) (f : ℕ) (p q all : Page) → f ≡ lowest (k * 64) (has a) → ¬ (f ≡ k * 64) → q ≡ written (blank ∷ number_text f) p
-    → b ≡ words_of k (dropped (has a) f) → written (fields (members (k * 64) (has a))) p ≡ all → written (fields (members (k * 64) (has b))) q ≡ all
-set_next k a b f p q all found some put rest left =
-    let first : members (k * 64) (has a) ≡ f ∷ members (k * 64) (has b) =
-    rw (members_made k b (dropped (has a) f) rest, found)
-    (listing_next (k * 64) (has a) (rw found at (listing_below k a b f found some))) in
-    fields_more f (members (k * 64) (has b)) p q (written (fields (members (k * 64) (has b))) q) put refl ∙ rw first at left

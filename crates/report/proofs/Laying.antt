@@ -1,12 +1,17 @@
 -- A text written from the beginning on is laid over the buffer: each byte takes the place of one, up to the buffer's end.
-use Prim.Native.Nat.{ℕ, suc, ◌+◌, ◌≤◌, min}
-use mathlib.Core.Path.{◌≡◌, refl, sym, ap, ◌∙◌}
-use mathlib.Core.List.{List, [], ◌∷◌, ◌++◌}
+use Prim.Native.Nat.{ℕ, suc, ◌+◌, ◌-◌, ◌≤◌, min}
+use mathlib.Core.Path.{◌≡◌, refl, sym, ap, ap₂, ◌∙◌}
+use mathlib.Core.List.{List, [], ◌∷◌, ◌++◌, append_assoc}
 use native.Mathlib.Nat.{zero-min, min-zero, suc-min-suc, min-le_right, sub-add-min_cancel}
 use native.Mathlib.Omega.{arith}
 use lib.ListN.{length, take, drop, length-append, length-take, length-drop}
-use lib.Seq.{length-take-le, take-nil, append_snoc, set-append_seam}
+use lib.Seq.{length-take-le, take-nil, drop-drop, append_snoc, set-append_seam}
+use borrow.Rule.Slice.PartMut.{put_mid}
+use Rattle.std.proofs.lemmas.List.{take-append-drop, take_min, drop_min}
+use Rattle.std.proofs.lemmas.Slice.{take-put_mid, drop-put_mid}
 use Rattle.sets.proofs.Tests.{below_true, below_false, pick_true, pick_false}
+use Rattle.report.specs.declared.text.Page.{Page as Lent}
+use Rattle.report.specs.Writing.{held, Writes}
 use Rattle.report.specs.Page.{Page, page, putting, written, laid, Counts}
 
 -- past the end nothing is written
@@ -36,6 +41,23 @@ laid_behind (b ∷ text) front (x ∷ rest) =
     ∙ ap (page (front ++ b ∷ laid text rest))
     (omega (arith, length-append front (b ∷ []), suc-min-suc (length text) (length rest)))
 
+-- as much of a text as there is room for, put in place of the bytes from the position on
+pub text_put : (text bytes part : List ℕ) (at count size : ℕ) → at ≤ length bytes → count ≡ min (length text) (length bytes - at) → size ≡ count → part ≡ take count text
+    → page (put_mid at size bytes part) (at + count) ≡ written text (page bytes at)
+unfolding laid
+text_put text bytes part at count size within long same made =
+    let rest = drop at bytes in
+    let room : length rest ≡ length bytes - at = length-drop at bytes in
+    let few : length part ≡ count = ap length made ∙ length-take count text ∙ omega arith in
+    let put : put_mid at size bytes part ≡ (take at bytes ++ part) ++ drop (at + count) bytes =
+    sym (take-append-drop (at + count) (put_mid at size bytes part))
+    ∙ ap₂ ◌++◌ (take-put_mid at size bytes part (at + count) (omega arith) within) (drop-put_mid at size bytes part (at + count) (omega arith) within (omega arith)) in
+    let first : part ≡ take (length rest) text = made ∙ ap (λ (n : ℕ). take n text) (omega arith) ∙ take_min (length rest) text in
+    let last : drop (at + count) bytes ≡ drop (length text) rest = sym (drop-drop count at bytes) ∙ ap (λ (n : ℕ). drop n rest) (omega arith) ∙ drop_min (length text) rest in
+    let all = rw (take-append-drop at bytes, length-take-le at bytes within) at (laid_behind text (take at bytes) rest) in
+    ap (λ (l : List ℕ). page l (at + count)) (put ∙ ap₂ (λ (a b : List ℕ). (take at bytes ++ a) ++ b) first last ∙ append_assoc (take at bytes) (take (length rest) text) (drop (length text) rest))
+    ∙ ap (page (take at bytes ++ (take (length rest) text ++ drop (length text) rest))) (omega arith) ∙ sym all
+
 laid_room : (text before : List ℕ) → length (laid text before) ≡ length before
 unfolding laid
 laid_room text before =
@@ -48,10 +70,11 @@ laid_room text before =
     )
 
 -- what `report` answers, and leaves in the buffer
-pub laid_answer : (text before after : List ℕ) (r : ℕ) → page after r ≡ written text (page before 0)
-    → (after ≡ laid text before) × ((r ≡ min (length text) (length before)) × Counts r after)
-laid_answer text before after r e =
-    let bytes : after ≡ laid text before = ap (λ (p : Page). p.bytes) (e ∙ laid_behind text [] before) in
-    let count : r ≡ min (length text) (length before) = ap (λ (p : Page). p.at) (e ∙ laid_behind text [] before) ∙ omega arith in
-    let within : r ≤ length after = rw (bytes, laid_room text before, count) (min-le_right (length text) (length before)) in
-    (bytes, (count, (within, sym (length-take-le r after within))))
+pub laid_answer : (told before after : List ℕ) (p q : Lent) → held p ≡ page before 0 → Writes told p q → after ≡ q.out.now
+    → record { text : after ≡ laid told before; answer : q.at ≡ min (length told) (length before); count : Counts q.at after }
+laid_answer told before after p q start put kept =
+    let all : held q ≡ page (laid told before) (0 + min (length told) (length before)) = put.wrote ∙ ap (written told) start ∙ laid_behind told [] before in
+    let bytes : after ≡ laid told before = kept ∙ ap (λ (r : Page). r.bytes) all in
+    let count : q.at ≡ min (length told) (length before) = ap (λ (r : Page). r.at) all ∙ omega arith in
+    let within : q.at ≤ length after = rw (bytes, laid_room told before, count) (min-le_right (length told) (length before)) in
+    record { text = bytes; answer = count; count = (within, sym (length-take-le q.at after within)) }

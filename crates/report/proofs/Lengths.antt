@@ -1,18 +1,19 @@
 -- No report is longer than 300,000 bytes: a number below 1,000 is written in three digits at most, the fields of a set are at most as many as the numbers
 -- below its bound, a cut holds only steps of the task, and there are at most as many rounds as steps.
 use Prim.Native.Nat.{ℕ, zero, suc, ◌+◌, ◌*◌, ◌/◌, ◌%◌, ◌^◌, ◌≤◌, ◌<◌}
-use mathlib.Core.Path.{◌≡◌, refl, sym, ap, ◌∙◌}
+use mathlib.Core.Path.{◌≡◌, refl, ap, ◌∙◌}
 use mathlib.Core.Bool.{Bool, true, false}
 use mathlib.Core.Logic.{inl, inr}
-use mathlib.Core.List.{List, [], ◌∷◌, ◌++◌, append-nil, append_assoc}
+use mathlib.Core.List.{List, [], ◌∷◌, ◌++◌}
 use native.Mathlib.Nat.{pow-suc, suc-mul}
 use native.Mathlib.Omega.{arith}
 use lib.ListN.{length, length-append}
 use Rattle.sets.specs.Tests.{pick}
 use Rattle.sets.specs.Sets.{Set, members}
 use Rattle.sets.proofs.Tests.{tell, compare, pick_true, pick_false}
-use Rattle.task.specs.declared.verdict.Verdict.{Verdict}
-use Rattle.task.specs.declared.verdict.Verdict.TheVariants.{Fine, Refused}
+use Rattle.std.specs.Prelude.{Ok, Err}
+use Rattle.task.specs.Refusal.{Verdict, number_of}
+use Rattle.report.proofs.Fields.{fields_append}
 use Rattle.task.specs.Limits.{limits}
 use Rattle.task.specs.Task.{Task}
 use Rattle.task.specs.Tables.{Tables, view}
@@ -50,15 +51,6 @@ number_short (suc d) n l =
     ]
 
 -- ---- fields
-
-fields_append : (a b : List ℕ) → fields (a ++ b) ≡ fields a ++ fields b
-unfolding fields
-fields_append [] b = refl
-fields_append (x ∷ a) b = ap (λ (l : List ℕ). (blank ∷ number_text x) ++ l) (fields_append a b) ∙ sym (append_assoc (blank ∷ number_text x) (fields a) (fields b))
-
-field_long : (x : ℕ) → length (fields (x ∷ [])) ≡ 1 + length (number_text x)
-unfolding fields
-field_long x = ap length (append-nil (blank ∷ number_text x)) ∙ omega arith
 
 fields_more_long : (x : ℕ) (xs : List ℕ) → length (fields (x ∷ xs)) ≡ 1 + length (number_text x) + length (fields xs)
 unfolding fields
@@ -177,11 +169,11 @@ module _ (t : Tables) (few_facts : t.facts ≤ 256) (few_steps : t.steps ≤ 256
 -- ---- the report on a file
 
 -- a refusal's line is short
-unless_short : (v : Verdict) (text : List ℕ) → Within longest_file v → (v ≡ Fine → length text ≤ longest_report) → length (unless_refused v text) ≤ longest_report
+unless_short : (v : Verdict) (text : List ℕ) → Within longest_file v → (v ≡ Ok tt → length text ≤ longest_report) → length (unless_refused v text) ≤ longest_report
 unfolding unless_refused
-unless_short Fine text within fine = fine refl
-unless_short (Refused number place) text within fine =
-    omega (arith, pair_short refused_word 1 4 number place (omega (arith, within.0)) (omega (arith, within.1)))
+unless_short (Ok done) text within fine = fine refl
+unless_short (Err r) text within fine =
+    omega (arith, pair_short refused_word 1 4 (number_of r.fault) r.place (omega (arith, within.0)) (omega (arith, within.1)))
 
 task_short : (t : Tables) → t.steps ≤ 256 → length (task_text t) ≤ longest_report
 unfolding task_text

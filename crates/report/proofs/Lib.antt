@@ -10,3 +10,4 @@ pub mod Cases
 pub mod Places
 pub mod Lengths
 pub mod Examples
+pub mod Printed

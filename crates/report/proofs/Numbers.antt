@@ -1,15 +1,15 @@
 -- Decimal text by its last digit: enough places give the same digits, by recursion on the places, so a number from 10 on is the text of its tenth and one digit.
-use Prim.Native.Nat.{ℕ, zero, suc, ◌/◌, ◌%◌, ◌≤◌, ◌<◌}
-use mathlib.Core.Path.{◌≡◌, refl}
+use Prim.Native.Nat.{ℕ, zero, suc, ◌/◌, ◌%◌, ◌^◌, ◌≤◌, ◌<◌}
+use mathlib.Core.Path.{◌≡◌, refl, ap, ◌∙◌}
 use mathlib.Core.Bool.{true, false}
-use mathlib.Core.List.{[], ◌∷◌, ◌++◌}
+use mathlib.Core.List.{List, [], ◌∷◌, ◌++◌}
 use mathlib.Core.Logic.{inl, inr}
 use native.Mathlib.Omega.{arith}
 use Rattle.sets.specs.Tests.{below}
 use Rattle.sets.proofs.Tests.{below_true, below_false, compare}
 use Rattle.report.specs.Text.{digit, digits_of, number_text}
-use Rattle.report.specs.Page.{Page, written}
-use Rattle.report.proofs.Writing.{write_on}
+use Rattle.std.specs.Fmt.{decimal}
+use Rattle.std.proofs.lemmas.Fmt.{decimal_by_steps}
 
 one_digit : (most n : ℕ) → digits_of most true n ≡ digit n ∷ []
 unfolding digits_of
@@ -41,11 +41,9 @@ pub number_more : (n : ℕ) → 10 ≤ n → number_text n ≡ number_text (n / 
 unfolding number_text
 number_more n l = rw (below_false n 10 l) (last_digit n n l (omega arith))
 
--- ---- a number written
+-- ---- a number as std writes it
 
-pub one_written : (n : ℕ) (p q : Page) → n < 10 → q ≡ written (digit n ∷ []) p → q ≡ written (number_text n) p
-one_written n p q l put = rw (number_one n l) put
-
-pub more_written : (n : ℕ) (p q r : Page) → 10 ≤ n → q ≡ written (number_text (n / 10)) p → r ≡ written (digit (n % 10) ∷ []) q
-    → r ≡ written (number_text n) p
-more_written n p q r l front put = rw (number_more n l) (write_on (number_text (n / 10)) (digit (n % 10) ∷ []) p q r front put)
+pub number_decimal : (n : ℕ) → n < 2 ^ 64 → number_text n ≡ decimal n
+number_decimal n fits =
+    decimal_by_steps (λ (k : ℕ) (text : List ℕ). number_text k ≡ text) number_one
+    (λ k front l e. number_more k l ∙ ap (λ (text : List ℕ). text ++ digit (k % 10) ∷ []) e) n fits

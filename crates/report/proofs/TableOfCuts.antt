@@ -1,8 +1,7 @@
 -- A table of cuts is written round by round; where its rows and prices are those of a list of rounds, the lines are those of the list.
-use Prim.Native.Nat.{ℕ, suc, ◌+◌, ◌*◌, ◌-◌, ◌≤◌, ◌<◌}
+use Prim.Native.Nat.{ℕ, zero, suc, ◌+◌, ◌*◌, ◌≤◌, ◌<◌}
 use mathlib.Core.Path.{◌≡◌, refl, sym, ap, ◌∙◌}
-use mathlib.Core.List.{List, [], ◌∷◌, ◌++◌, append_assoc}
-use native.Mathlib.Nat.{sub-zero}
+use mathlib.Core.List.{List, [], ◌∷◌, ◌++◌, append-nil, append_assoc}
 use native.Mathlib.Numerals.{add-one}
 use native.Mathlib.Omega.{arith}
 use lib.ListN.{length, get_or, take, drop}
@@ -14,10 +13,11 @@ use Rattle.sets.proofs.Words.{length_words_of}
 use Rattle.cuts.specs.Rounds.{Round, EachRound}
 use Rattle.cuts.specs.Answer.{cut_words, cut_costs}
 use Rattle.report.specs.Text.{cut_word, line, cut_line}
-use Rattle.report.specs.Page.{Page, written}
+use Rattle.report.specs.declared.text.Page.{Page as Lent}
 use Rattle.report.specs.Report.{cut_lines}
 use Rattle.report.specs.Workers.{table_cuts}
-use Rattle.report.proofs.Writing.{write_on}
+use Rattle.report.specs.Writing.{Writes}
+use Rattle.report.proofs.Writing.{writes_none, writes_on, writes_as}
 use Rattle.report.proofs.Fields.{members_made, members_read}
 
 -- ---- the rounds from one on are left to write
@@ -25,24 +25,29 @@ use Rattle.report.proofs.Fields.{members_made, members_read}
 cut_line_made : (cost : ℕ) (words ws : List ℕ) → words ≡ words_of 16 (has ws) → cut_line 1024 cost (has words) ≡ cut_line 1024 cost (has ws)
 cut_line_made cost words ws e = ap (λ (steps : List ℕ). line cut_word (cost ∷ steps)) (members_made 16 words (has ws) e)
 
-pub table_start : (rows prices : List ℕ) (rounds : ℕ) (p : Page) → written (table_cuts (rounds - 0) 0 rows prices) p ≡ written (table_cuts rounds 0 rows prices) p
-table_start rows prices rounds p = rw (sub-zero rounds)
-
-pub table_next : (rows prices : List ℕ) (rounds round : ℕ) (words : List ℕ) (p q all : Page) → round < rounds → words ≡ words_of 16 (has (row 16 round rows))
-    → q ≡ written (cut_line 1024 (get_or prices round 0) (has words)) p → written (table_cuts (rounds - round) round rows prices) p ≡ all
-    → written (table_cuts (rounds - (round + 1)) (round + 1) rows prices) q ≡ all
+-- one round more
+table_more : (rounds round last : ℕ) (rows prices : List ℕ) → last ≡ round + rounds
+    → table_cuts (suc rounds) round rows prices ≡ table_cuts rounds round rows prices ++ cut_line 1024 (get_or prices last 0) (has (row 16 last rows))
 unfolding table_cuts
-table_next rows prices rounds round words p q all l read put left =
-    let more : rounds - round ≡ suc (rounds - (round + 1)) = omega arith in
-    let rest : List ℕ = table_cuts (rounds - (round + 1)) (round + 1) rows prices in
-    write_on (cut_line 1024 (get_or prices round 0) (has (row 16 round rows))) rest p q (written rest q) (rw (cut_line_made (get_or prices round 0) words (row 16 round rows) read) at put) refl
-    ∙ rw (more, ← add-one round) at left
+table_more zero round last rows prices e = let here : last ≡ round = omega arith in rw here (append-nil (cut_line 1024 (get_or prices round 0) (has (row 16 round rows))))
+table_more (suc rounds) round last rows prices e =
+    let line = cut_line 1024 (get_or prices round 0) (has (row 16 round rows)) in
+    ap (λ (l : List ℕ). line ++ l) (table_more rounds (suc round) last rows prices (omega arith))
+    ∙ sym (append_assoc line (table_cuts rounds (suc round) rows prices) (cut_line 1024 (get_or prices last 0) (has (row 16 last rows))))
 
-pub table_end : (rows prices : List ℕ) (rounds round : ℕ) (p all : Page) → rounds ≤ round → written (table_cuts (rounds - round) round rows prices) p ≡ all → p ≡ all
-unfolding table_cuts written
-table_end rows prices rounds round p all l left =
-    let none : rounds - round ≡ 0 = omega arith in
-    rw none at left
+pub table_none : (rows prices : List ℕ) (p : Lent) → Writes (table_cuts 0 0 rows prices) p p
+unfolding table_cuts
+table_none rows prices p = writes_none p
+
+pub table_next : (rows prices : List ℕ) (round : ℕ) (words : List ℕ) (p q r : Lent) → words ≡ words_of 16 (has (row 16 round rows))
+    → Writes (table_cuts round 0 rows prices) p q → Writes (cut_line 1024 (get_or prices round 0) (has words)) q r → Writes (table_cuts (round + 1) 0 rows prices) p r
+table_next rows prices round words p q r read first put =
+    let front = table_cuts round 0 rows prices in
+    rw (add-one round) (
+    writes_as (front ++ cut_line 1024 (get_or prices round 0) (has words)) (table_cuts (suc round) 0 rows prices) p r
+    (ap (λ (l : List ℕ). front ++ l) (cut_line_made (get_or prices round 0) words (row 16 round rows) read) ∙ sym (table_more round 0 round rows prices (omega arith)))
+    (writes_on front (cut_line 1024 (get_or prices round 0) (has words)) p q r first put)
+    )
 
 -- ---- the rows and prices of a list of rounds
 

@@ -1,4 +1,6 @@
 pub mod Text
 pub mod Page
+pub mod Writing
 pub mod Report
 pub mod Workers
+pub mod Files

@@ -1,7 +1,6 @@
 -- The report of document 01: what is printed of a task's tables, and of a task file.
-use Rattle.std.specs.Prelude.{List, [], ◌∷◌, ◌++◌, ℕ, ◌*◌}
-use Rattle.task.specs.declared.verdict.Verdict.{Verdict}
-use Rattle.task.specs.declared.verdict.Verdict.TheVariants.{Fine, Refused}
+use Rattle.std.specs.Prelude.{List, [], ◌∷◌, ◌++◌, ℕ, ◌*◌, Ok, Err}
+use Rattle.task.specs.Refusal.{Verdict, number_of}
 use Rattle.task.specs.Tables.{Tables, view}
 use Rattle.reach.specs.Reach.{reach}
 use Rattle.must.specs.Must.{must_facts, must_steps}
@@ -33,8 +32,8 @@ round_lines t = let rounds = (rounds_of (view t)).list in cut_lines t.steps roun
 
 -- a refusal prints only "refused", number, place
 unfoldable pub unless_refused : Verdict → List ℕ → List ℕ
-unless_refused Fine text = text
-unless_refused (Refused number place) text = refused_line number place
+unless_refused (Ok done) text = text
+unless_refused (Err r) text = refused_line (number_of r.fault) r.place
 
 -- the report on a task: 7 where no way leads to the goal
 unfoldable pub task_text : Tables → List ℕ

@@ -1,99 +1,83 @@
-// The report on a task: what is found of it, line after line.
-ghost use Rattle.std.specs.Prelude.{◌≡◌, ◌*◌, ◌≤◌, length, take};
-ghost use Rattle.task.specs.Tables.{tables};
+// The report on a task file: what is found of the task, line after line.
+ghost use Rattle.std.specs.Prelude.{◌≡◌, ◌*◌, ◌≤◌, length};
+ghost use Rattle.task.specs.Lent.{lent};
 ghost use Rattle.must.specs.Answer.{pass_verdict};
-ghost use Rattle.report.specs.Report.{round_lines, task_text, steps_room};
-ghost use Rattle.report.specs.Page.{page, written};
+ghost use Rattle.taskfile.specs.Meaning.{file_tables};
+ghost use Rattle.report.specs.Report.{steps_room};
+ghost use Rattle.report.specs.Workers.{first_steps, report_verdict, task_lines};
+ghost use Rattle.report.specs.Writing.{WritesUnless};
 
-use crate::{STEPS, lines};
+use crate::STEPS;
+use crate::text::Page;
 use sets::{Facts, Steps};
-use task::{Task, Verdict};
+use task::{Refusal, Tables};
 
-// Writes the report on a task that stands at the beginning of tables for STEPS steps.
-pub(crate) fn read_report(
-    task: Task,
-    needs: &[u64],
-    sets: &[u64],
-    clears: &[u64],
-    costs: &[u32],
-    start: &[u64],
-    goal: &[u64],
-    out: &mut [u8],
-) -> usize
-    requires steps_bound { task.steps ≤ steps_room }
-    requires room { (4 * steps_room ≤ length needs.now) × (4 * steps_room ≤ length sets.now) × (4 * steps_room ≤ length clears.now) × (steps_room ≤ length costs.now) }
-    ensures { page out.new result ≡ written (task_text (tables task.facts task.steps (take (4 * task.steps) needs.now) (take (4 * task.steps) sets.now) (take (4 * task.steps) clears.now) (take task.steps costs.now) start.now goal.now)) (page out.old 0) }
+/// Writes what is found of the task that a file stands for; nothing where the file or the task is
+/// refused.
+pub(crate) fn file_report(file: &[u8], page: &mut Page<'_>) -> Result<(), Refusal>
+    ensures verdict { result ≡ report_verdict file.now }
+    ensures written { WritesUnless result (task_lines (file_tables file.now)) page.old page.new }
 {
-    let m = task.steps;
-    let words = Facts::WORDS * m;
-    task_report(
-        task,
-        &needs[..words],
-        &sets[..words],
-        &clears[..words],
-        &costs[..m],
-        start,
-        goal,
-        out,
-    )
+    let mut needs = [0; Facts::WORDS * STEPS];
+    let mut sets = [0; Facts::WORDS * STEPS];
+    let mut clears = [0; Facts::WORDS * STEPS];
+    let mut costs = [0; STEPS];
+    let mut start = [0; Facts::WORDS];
+    let mut goal = [0; Facts::WORDS];
+    let sizes = taskfile::read_task(
+        file,
+        &mut needs,
+        &mut sets,
+        &mut clears,
+        &mut costs,
+        &mut start,
+        &mut goal,
+    )?;
+    let room = Tables {
+        sizes,
+        needs: &needs,
+        sets: &sets,
+        clears: &clears,
+        costs: &costs,
+        start: &start,
+        goal: &goal,
+    };
+    task_report(first_steps(room), page)
 }
 
-// Writes the report on a task of at most STEPS steps, from the buffer's beginning on.
-fn task_report(
-    task: Task,
-    needs: &[u64],
-    sets: &[u64],
-    clears: &[u64],
-    costs: &[u32],
-    start: &[u64],
-    goal: &[u64],
-    out: &mut [u8],
-) -> usize
-    requires { task.steps ≤ steps_room }
-    ensures { page out.new result ≡ written (task_text (tables task.facts task.steps needs.now sets.now clears.now costs.now start.now goal.now)) (page out.old 0) }
+// The tables of a task that stands at the beginning of tables with room for more steps.
+fn first_steps<'a>(room: Tables<'a>) -> Tables<'a>
+    requires needs { 4 * room.sizes.steps ≤ length room.needs.now }
+    requires sets { 4 * room.sizes.steps ≤ length room.sets.now }
+    requires clears { 4 * room.sizes.steps ≤ length room.clears.now }
+    requires costs { room.sizes.steps ≤ length room.costs.now }
+    ensures { lent result ≡ first_steps (lent room.entry) }
 {
-    let passed = must::must_pass(task, needs, sets, clears, costs, start, goal);
-    let verdict = passed.verdict;
-    if let Verdict::Refused(number, place) = verdict {
-        return lines::pair_line(out, 0, b"refused", number as u64, place as u64);
+    let words = Facts::WORDS * room.sizes.steps;
+    Tables {
+        needs: &room.needs[..words],
+        sets: &room.sets[..words],
+        clears: &room.clears[..words],
+        costs: &room.costs[..room.sizes.steps],
+        ..room
     }
-    let reached = reach::reach(task, needs, sets, clears, costs, start, goal);
-    let taken = must::must_take(task, needs, sets, clears, costs, start, goal);
-    let at = lines::set_lines(out, task, reached.set, passed.facts, taken.steps);
-    round_lines(task, needs, sets, clears, costs, start, goal, out, at)
 }
 
-// Writes the line of each round, and the floor.
-fn round_lines(
-    task: Task,
-    needs: &[u64],
-    sets: &[u64],
-    clears: &[u64],
-    costs: &[u32],
-    start: &[u64],
-    goal: &[u64],
-    out: &mut [u8],
-    at: usize,
-) -> usize
-    requires steps_bound { task.steps ≤ steps_room }
-    requires fine { pass_verdict (tables task.facts task.steps needs.now sets.now clears.now costs.now start.now goal.now) ≡ Verdict.Fine }
-    ensures { page out.new result ≡ written (round_lines (tables task.facts task.steps needs.now sets.now clears.now costs.now start.now goal.now)) (page out.old at) }
+// Writes what is found of a task of at most STEPS steps; nothing where it is refused.
+fn task_report(tables: Tables<'_>, page: &mut Page<'_>) -> Result<(), Refusal>
+    requires { tables.sizes.steps ≤ steps_room }
+    ensures verdict { result ≡ pass_verdict (lent tables.entry) }
+    ensures written { WritesUnless result (task_lines (lent tables.entry)) page.old page.new }
 {
-    let mut rows = [0u64; Steps::WORDS * STEPS];
-    let mut prices = [0u32; STEPS];
-    let mut left = [0u32; STEPS];
-    let cutting = cuts::cuts(
-        task,
-        needs,
-        sets,
-        clears,
-        costs,
-        start,
-        goal,
-        &mut rows,
-        &mut prices,
-        &mut left,
-    );
-    let after_cuts = lines::cut_lines(out, at, &rows, &prices, cutting.rounds);
-    lines::floor_line(out, after_cuts, cutting.floor)
+    let mut rows = [0; Steps::WORDS * STEPS];
+    let mut prices = [0; STEPS];
+    let mut left = [0; STEPS];
+    let reached = reach::reach(tables)?;
+    let passed = must::must_pass(tables)?;
+    let taken = must::must_take(tables)?;
+    let cutting = cuts::cuts(tables, &mut rows, &mut prices, &mut left)?;
+    page.set_lines(tables.sizes, reached.set, passed, taken);
+    page.cut_lines(&rows, &prices[..cutting.rounds]);
+    page.line(b"floor", &[cutting.floor as usize]);
+    Ok(())
 }

@@ -1,84 +1,69 @@
-// Text written into a lent buffer from a position on. Each function answers the position after what
-// it wrote; what does not fit is left out.
-ghost use Rattle.std.specs.Prelude.{◌≡◌, [], ◌∷◌};
-ghost use Rattle.sets.specs.Sets.{members};
-ghost use Rattle.sets.specs.Words.{has};
-ghost use Rattle.report.specs.Text.{blank, number_text, fields};
-ghost use Rattle.report.specs.Page.{page, written};
+// Text written into a lent buffer, from its beginning on.
+ghost use Rattle.std.specs.Prelude.{◌≤◌, length};
 
-use sets::{Facts, Steps};
+use itoa::Buffer;
+use sets::{Bits, Few};
 
-// Writes a byte.
-pub(crate) fn put(out: &mut [u8], at: usize, byte: u8) -> usize
-    ensures { page out.new result ≡ written (byte ∷ []) (page out.old at) }
-{
-    if out.len() <= at {
-        return at;
+/// A lent buffer that is written from its beginning on; what does not fit is left out.
+#[derive(Drop)]
+pub(crate) struct Page<'a> {
+    pub(crate) out: &'a mut [u8],
+    /// How many bytes were written.
+    pub(crate) at: usize,
+    ghost within: { at ≤ length out.now },
+}
+
+impl<'a> Page<'a> {
+    ghost use Rattle.std.specs.Prelude.{◌≡◌, ◌*◌, [], ◌∷◌};
+    ghost use Rattle.sets.specs.Sets.{members};
+    ghost use Rattle.sets.specs.Words.{has};
+    ghost use Rattle.report.specs.Text.{blank, number_text, fields};
+    ghost use Rattle.report.specs.Page.{page};
+    ghost use Rattle.report.specs.Writing.{held, Writes};
+
+    /// A page on which nothing is written.
+    pub(crate) fn new(out: &'a mut [u8]) -> Self
+        ensures same_buffer { result.out.ghost_name ≡ out.entry.ghost_name }
+        ensures empty { held result ≡ page out.old 0 }
+    {
+        Page { out, at: 0 }
     }
-    out[at] = byte;
-    at + 1
-}
 
-// Writes a word.
-pub(crate) fn put_word(out: &mut [u8], at: usize, word: &[u8]) -> usize
-    ensures { page out.new result ≡ written word.now (page out.old at) }
-{
-    let mut next = at;
-    let mut i: usize = 0;
-    while i < word.len() {
-        next = put(out, next, word[i]);
-        i += 1;
+    /// Writes a text.
+    pub(crate) fn text(&mut self, text: &[u8])
+        ensures { Writes text.now self.old self.new }
+    {
+        let count = text.len().min(self.out.len() - self.at);
+        let end = self.at + count;
+        self.out[self.at..end].copy_from_slice(&text[..count]);
+        self.at = end;
     }
-    next
-}
 
-// Writes a number in decimal.
-pub(crate) fn put_number(out: &mut [u8], at: usize, n: u64) -> usize
-    ensures { page out.new result ≡ written (number_text n) (page out.old at) }
-{
-    if n < 10 {
-        return put(out, at, 48 + n as u8);
+    /// Writes a blank and a number in decimal.
+    pub(crate) fn field(&mut self, number: usize)
+        ensures { Writes (blank ∷ number_text number) self.old self.new }
+    {
+        self.text(b" ");
+        self.text(Buffer::new().format(number).as_bytes());
     }
-    let next = put_number(out, at, n / 10);
-    put(out, next, 48 + (n % 10) as u8)
-}
 
-// Writes a blank and a number.
-pub(crate) fn put_field(out: &mut [u8], at: usize, n: u64) -> usize
-    ensures { page out.new result ≡ written (blank ∷ number_text n) (page out.old at) }
-{
-    let next = put(out, at, b' ');
-    put_number(out, next, n)
-}
-
-// Writes a blank and each fact of a set, lowest first.
-pub(crate) fn put_facts(out: &mut [u8], at: usize, set: Facts) -> usize
-    ensures { page out.new result ≡ written (fields (members 256 (has set.words))) (page out.old at) }
-{
-    let mut next = at;
-    let mut left = set;
-    loop {
-        let f = left.lowest();
-        if f == Facts::ROOM {
-            return next;
+    /// Writes a blank and each number.
+    pub(crate) fn fields(&mut self, numbers: &[usize])
+        ensures { Writes (fields numbers.now) self.old self.new }
+    {
+        for &number in numbers {
+            self.field(number);
         }
-        next = put_field(out, next, f as u64);
-        left = left.without(f);
     }
-}
 
-// Writes a blank and each step of a set, lowest first.
-pub(crate) fn put_steps(out: &mut [u8], at: usize, set: Steps) -> usize
-    ensures { page out.new result ≡ written (fields (members 1024 (has set.words))) (page out.old at) }
-{
-    let mut next = at;
-    let mut left = set;
-    loop {
-        let s = left.lowest();
-        if s == Steps::ROOM {
-            return next;
+    /// Writes a blank and each member of a set, lowest first.
+    pub(crate) fn members<const WORDS: usize>(&mut self, set: Bits<WORDS>)
+    where
+        Bits<WORDS>: Few<WORDS>,
+        ensures { Writes (fields (members (WORDS * 64) (has set.entry.words))) self.old self.new }
+    {
+        for member in set.members() {
+            self.field(member);
         }
-        next = put_field(out, next, s as u64);
-        left = left.without(s);
     }
 }

@@ -1,6 +1,0 @@
-use borrow.Author.Rules.{rules}
-use Rattle.report.proofs.Fields.{line_written}
-use Rattle.report.proofs.lines.facts_line.Goals as goal
-
-pub returns : goal.returns
-returns c = search (rules, line_written)
