@@ -1,44 +1,42 @@
 -- The answers as plain numbers: each field is one of the library's own answer, so that the numbers of refusals, places, passes, rounds and costs are those of document 01.
-use Rattle.std.specs.Prelude.{ℕ}
-use Rattle.task.specs.declared.verdict.Verdict.{Verdict}
-use Rattle.task.specs.Verdict.{number_of, place_of}
+use Rattle.std.specs.Prelude.{Result, Ok, Err}
+use Rattle.task.specs.declared.refusal.Refusal.{Refusal}
+use Rattle.task.specs.declared.tables.Sizes.{Sizes}
+use Rattle.task.specs.Refusal.{number_of}
 use Rattle.reach.specs.declared.Reached.{Reached}
 use Rattle.cuts.specs.declared.Cutting.{Cutting}
 use Rattle.replay.specs.declared.Replayed.{Replayed}
-use Rattle.replay.specs.declared.Replayed.TheVariants.{Done, Stuck, Short, Refused}
-use Rattle.replay.specs.Answers.{number_of as replay_number, place_of as replay_place, cost_of as replay_cost}
-use Rattle.taskfile.specs.declared.read.Reading.{Reading}
-use Rattle.taskfile.specs.declared.read.Reading.TheVariants.{Sizes, Refused as NotRead}
+use Rattle.replay.specs.declared.Replayed.TheVariants.{Done, Stuck, Short}
 use Rattle.exports.specs.declared.answers.Answer.{Answer}
 use Rattle.exports.specs.declared.answers.ReachAnswer.{ReachAnswer}
 use Rattle.exports.specs.declared.answers.CutsAnswer.{CutsAnswer}
 use Rattle.exports.specs.declared.answers.ReplayAnswer.{ReplayAnswer}
 use Rattle.exports.specs.declared.answers.ReadAnswer.{ReadAnswer}
 
--- number and place of a refusal; 0 and 0 where nothing is refused
-abbrev pub answer_of : Verdict → Answer
-answer_of v = record { number = number_of v; place = place_of v }
+-- number and place of a refusal; 0 and 0 where nothing is refused, whatever is answered
+abbrev pub answer_of : {A : Type 0} → Result A Refusal → Answer
+answer_of (Ok value) = record { number = 0; place = 0 }
+answer_of (Err r) = record { number = number_of r.fault; place = r.place }
 
 -- the same, with the number of passes
-abbrev pub reach_answer_of : Reached → ReachAnswer
-reach_answer_of r = record { number = number_of r.verdict; place = place_of r.verdict; passes = r.passes }
+abbrev pub reach_answer_of : Result Reached Refusal → ReachAnswer
+reach_answer_of (Ok reached) = record { number = 0; place = 0; passes = reached.passes }
+reach_answer_of (Err r) = record { number = number_of r.fault; place = r.place; passes = 0 }
 
 -- the same, with the number of rounds and the floor
-abbrev pub cuts_answer_of : Cutting → CutsAnswer
-cuts_answer_of r = record { number = number_of r.verdict; place = place_of r.verdict; rounds = r.rounds; floor = r.floor }
+abbrev pub cuts_answer_of : Result Cutting Refusal → CutsAnswer
+cuts_answer_of (Ok cutting) = record { number = 0; place = 0; rounds = cutting.rounds; floor = cutting.floor }
+cuts_answer_of (Err r) = record { number = number_of r.fault; place = r.place; rounds = 0; floor = 0 }
 
--- which answer a replay gives: 0 done, 1 stuck, 2 short of the goal, 3 refused
-abbrev pub outcome_of : Replayed → ℕ
-outcome_of (Done cost) = 0
-outcome_of (Stuck entry) = 1
-outcome_of Short = 2
-outcome_of (Refused number place) = 3
-
--- that outcome, the refusal's number, the entry where the walk is stuck or the refusal's place, and the cost of a walk that is done
-abbrev pub replay_answer_of : Replayed → ReplayAnswer
-replay_answer_of r = record { outcome = outcome_of r; number = replay_number r; place = replay_place r; cost = replay_cost r }
+-- which answer a replay gives: 0 done, 1 stuck, 2 short of the goal, 3 refused; the refusal's number, the entry where the walk is stuck or the refusal's place,
+-- and the cost of a walk that is done
+abbrev pub replay_answer_of : Result Replayed Refusal → ReplayAnswer
+replay_answer_of (Ok (Done cost)) = record { outcome = 0; number = 0; place = 0; cost = cost }
+replay_answer_of (Ok (Stuck entry)) = record { outcome = 1; number = 0; place = entry; cost = 0 }
+replay_answer_of (Ok Short) = record { outcome = 2; number = 0; place = 0; cost = 0 }
+replay_answer_of (Err r) = record { outcome = 3; number = number_of r.fault; place = r.place; cost = 0 }
 
 -- the sizes of the task that was read, or the refusal of the file
-abbrev pub read_answer_of : Reading → ReadAnswer
-read_answer_of (Sizes t) = record { number = 0; place = 0; facts = t.facts; steps = t.steps }
-read_answer_of (NotRead number place) = record { number = number; place = place; facts = 0; steps = 0 }
+abbrev pub read_answer_of : Result Sizes Refusal → ReadAnswer
+read_answer_of (Ok sizes) = record { number = 0; place = 0; facts = sizes.facts; steps = sizes.steps }
+read_answer_of (Err r) = record { number = number_of r.fault; place = r.place; facts = 0; steps = 0 }

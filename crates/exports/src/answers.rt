@@ -1,34 +1,35 @@
 // Answers as structs of numbers, and sets as the words that a caller lends.
+// Stays numbers side by side, 0 where there is nothing to say: the C interface.
 ghost use Rattle.std.specs.Prelude.{◌≡◌};
-ghost use Rattle.exports.specs.Answers.{answer_of, reach_answer_of, cuts_answer_of, outcome_of, replay_answer_of, read_answer_of};
+ghost use Rattle.exports.specs.Answers.{answer_of, reach_answer_of, cuts_answer_of, replay_answer_of, read_answer_of};
 ghost use Rattle.exports.specs.Written.{set_written};
 
 use cuts::Cutting;
 use reach::Reached;
 use replay::Replayed;
-use task::Verdict;
-use taskfile::Reading;
+use sets::Bits;
+use task::{Refusal, Sizes};
 
-// Document 01's number of a refusal, and its place; both 0 where nothing is refused.
+/// Document 01's number of a refusal, and its place; both 0 where nothing is refused.
 #[repr(C)]
-#[derive(Clone, Copy)]
+#[derive(Clone, Copy, Debug, PartialEq, Eq)]
 pub struct Answer {
     pub number: u64,
     pub place: u64,
 }
 
-// The answer of reach: the number of passes beside it.
+/// The answer of reach: the number of passes beside it, 0 where the task is refused.
 #[repr(C)]
-#[derive(Clone, Copy)]
+#[derive(Clone, Copy, Debug, PartialEq, Eq)]
 pub struct ReachAnswer {
     pub number: u64,
     pub place: u64,
     pub passes: u64,
 }
 
-// The answer of cuts: the number of rounds and the floor beside it.
+/// The answer of cuts: the number of rounds and the floor beside it, both 0 where they are refused.
 #[repr(C)]
-#[derive(Clone, Copy)]
+#[derive(Clone, Copy, Debug, PartialEq, Eq)]
 pub struct CutsAnswer {
     pub number: u64,
     pub place: u64,
@@ -36,10 +37,10 @@ pub struct CutsAnswer {
     pub floor: u64,
 }
 
-// The answer of a replay: outcome 0 done with the cost, 1 stuck at the entry `place`, 2 short of the
-// goal, 3 refused with number and place.
+/// The answer of a replay: outcome 0 done with the cost, 1 stuck at the entry `place`, 2 short of the
+/// goal, 3 refused with number and place.
 #[repr(C)]
-#[derive(Clone, Copy)]
+#[derive(Clone, Copy, Debug, PartialEq, Eq)]
 pub struct ReplayAnswer {
     pub outcome: u64,
     pub number: u64,
@@ -47,9 +48,9 @@ pub struct ReplayAnswer {
     pub cost: u64,
 }
 
-// The answer of reading: the numbers of facts and steps beside it, both 0 where the file is refused.
+/// The answer of reading: the numbers of facts and steps beside it, both 0 where the file is refused.
 #[repr(C)]
-#[derive(Clone, Copy)]
+#[derive(Clone, Copy, Debug, PartialEq, Eq)]
 pub struct ReadAnswer {
     pub number: u64,
     pub place: u64,
@@ -57,102 +58,98 @@ pub struct ReadAnswer {
     pub steps: u64,
 }
 
-// A verdict as numbers.
-pub(crate) fn answer_of(verdict: Verdict) -> Answer
-    ensures { result ≡ answer_of verdict }
-{
-    let number = verdict.number() as u64;
-    let place = verdict.place() as u64;
-    Answer { number, place }
-}
+impl<T: Copy> From<Result<T, Refusal>> for Answer {
+    ghost from_gives = { λ answered answer. answer ≡ answer_of answered };
 
-// What is within reach, without the set.
-pub(crate) fn reach_answer_of(reached: Reached) -> ReachAnswer
-    ensures { result ≡ reach_answer_of reached }
-{
-    let verdict = reached.verdict;
-    let answer = answer_of(verdict);
-    ReachAnswer {
-        number: answer.number,
-        place: answer.place,
-        passes: reached.passes as u64,
+    fn from(answered: Result<T, Refusal>) -> Self {
+        match answered {
+            Ok(_) => Answer {
+                number: 0,
+                place: 0,
+            },
+            Err(refusal) => {
+                let number = refusal.fault.number() as u64;
+                let place = refusal.place as u64;
+                Answer { number, place }
+            }
+        }
     }
 }
 
-// What cutting counts.
-pub(crate) fn cuts_answer_of(cutting: Cutting) -> CutsAnswer
-    ensures { result ≡ cuts_answer_of cutting }
-{
-    let verdict = cutting.verdict;
-    let answer = answer_of(verdict);
-    CutsAnswer {
-        number: answer.number,
-        place: answer.place,
-        rounds: cutting.rounds as u64,
-        floor: cutting.floor as u64,
+impl From<Result<Reached, Refusal>> for ReachAnswer {
+    ghost from_gives = { λ reached answer. answer ≡ reach_answer_of reached };
+
+    fn from(reached: Result<Reached, Refusal>) -> Self {
+        let Answer { number, place } = reached.into();
+        let passes = reached.map_or(0, |reached| reached.passes as u64);
+        ReachAnswer {
+            number,
+            place,
+            passes,
+        }
     }
 }
 
-// What becomes of a walk, as numbers.
-pub(crate) fn replay_answer_of(replayed: Replayed) -> ReplayAnswer
-    ensures { result ≡ replay_answer_of replayed }
-{
-    ReplayAnswer {
-        outcome: outcome_of(replayed),
-        number: replayed.number() as u64,
-        place: replayed.place() as u64,
-        cost: replayed.cost(),
+impl From<Result<Cutting, Refusal>> for CutsAnswer {
+    ghost from_gives = { λ cutting answer. answer ≡ cuts_answer_of cutting };
+
+    fn from(cutting: Result<Cutting, Refusal>) -> Self {
+        let Answer { number, place } = cutting.into();
+        let rounds = cutting.map_or(0, |cutting| cutting.rounds as u64);
+        let floor = cutting.map_or(0, |cutting| cutting.floor as u64);
+        CutsAnswer {
+            number,
+            place,
+            rounds,
+            floor,
+        }
     }
 }
 
-// Which of the four answers a replay gives.
-fn outcome_of(replayed: Replayed) -> u64
-    ensures { result ≡ outcome_of replayed }
-{
-    match replayed {
-        Replayed::Done(_) => 0,
-        Replayed::Stuck(_) => 1,
-        Replayed::Short => 2,
-        Replayed::Refused(_, _) => 3,
+impl From<Result<Replayed, Refusal>> for ReplayAnswer {
+    ghost from_gives = { λ replayed answer. answer ≡ replay_answer_of replayed };
+
+    fn from(replayed: Result<Replayed, Refusal>) -> Self {
+        let Answer { number, place } = replayed.into();
+        let (outcome, place, cost) = match replayed {
+            Ok(Replayed::Done(cost)) => (0, 0, cost),
+            Ok(Replayed::Stuck(entry)) => (1, entry as u64, 0),
+            Ok(Replayed::Short) => (2, 0, 0),
+            Err(_) => (3, place, 0),
+        };
+        ReplayAnswer {
+            outcome,
+            number,
+            place,
+            cost,
+        }
     }
 }
 
-// What reading a file gives, as numbers.
-pub(crate) fn read_answer_of(reading: Reading) -> ReadAnswer
-    ensures { result ≡ read_answer_of reading }
-{
-    match reading {
-        Reading::Sizes(task) => ReadAnswer {
-            number: 0,
-            place: 0,
-            facts: task.facts as u64,
-            steps: task.steps as u64,
-        },
-        Reading::Refused(number, place) => ReadAnswer {
-            number: number as u64,
-            place: place as u64,
-            facts: 0,
-            steps: 0,
-        },
+impl From<Result<Sizes, Refusal>> for ReadAnswer {
+    ghost from_gives = { λ sizes answer. answer ≡ read_answer_of sizes };
+
+    fn from(sizes: Result<Sizes, Refusal>) -> Self {
+        let Answer { number, place } = sizes.into();
+        let facts = sizes.map_or(0, |sizes| sizes.facts as u64);
+        let steps = sizes.map_or(0, |sizes| sizes.steps as u64);
+        ReadAnswer {
+            number,
+            place,
+            facts,
+            steps,
+        }
     }
 }
 
-// Writes a set of facts into the four words lent, unless it is refused.
-pub(crate) fn write_facts(verdict: Verdict, words: [u64; 4], set: &mut [u64; 4])
-    ensures { set.new ≡ set_written verdict words set.old }
+// Writes the words of a set into those lent, unless it is refused.
+pub(crate) fn write_set<const WORDS: usize>(
+    answered: Result<Bits<WORDS>, Refusal>,
+    words: &mut [u64; WORDS],
+)
+    ensures { words.new ≡ set_written WORDS answered.entry words.old }
 {
-    let Verdict::Fine = verdict else {
-        return;
-    };
-    *set = words;
-}
-
-// Writes a set of steps into the sixteen words lent, unless it is refused.
-pub(crate) fn write_steps(verdict: Verdict, words: [u64; 16], set: &mut [u64; 16])
-    ensures { set.new ≡ set_written verdict words set.old }
-{
-    let Verdict::Fine = verdict else {
-        return;
-    };
-    *set = words;
+    if let Ok(set) = answered {
+        words.copy_from_slice(&set.words);
+    }
 }

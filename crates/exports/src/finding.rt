@@ -9,9 +9,9 @@ ghost use Rattle.exports.specs.Written.{reach_written};
 
 use crate::answers;
 use crate::answers::{Answer, ReachAnswer, ReplayAnswer};
-use task::Task;
+use crate::lending::lent;
 
-// What is wrong with a task's sizes and tables, if anything. Refusals 1 to 5.
+/// What is wrong with a task's sizes and tables, if anything. Refusals 1 to 5.
 pub fn salgezhim_check(
     facts: usize,
     steps: usize,
@@ -24,12 +24,10 @@ pub fn salgezhim_check(
 ) -> Answer
     ensures { result ≡ answer_of (verdict_of (tables facts steps needs.now sets.now clears.now costs.now start.now goal.now)) }
 {
-    let task = Task { facts, steps };
-    let verdict = task::check(task, needs, sets, clears, costs, start, goal);
-    answers::answer_of(verdict)
+    task::check(lent(facts, steps, needs, sets, clears, costs, start, goal)).into()
 }
 
-// The facts within reach, clearing ignored, and the number of passes. Refusals 1 to 5.
+/// The facts within reach, clearing ignored, and the number of passes. Refusals 1 to 5.
 pub fn salgezhim_reach(
     facts: usize,
     steps: usize,
@@ -44,15 +42,12 @@ pub fn salgezhim_reach(
     ensures answer { result ≡ reach_answer_of (reached_of (tables facts steps needs.now sets.now clears.now costs.now start.now goal.now)) }
     ensures set { set.new ≡ reach_written (reached_of (tables facts steps needs.now sets.now clears.now costs.now start.now goal.now)) set.old }
 {
-    let task = Task { facts, steps };
-    let reached = reach::reach(task, needs, sets, clears, costs, start, goal);
-    let verdict = reached.verdict;
-    let words = reached.set.words;
-    answers::write_facts(verdict, words, set);
-    answers::reach_answer_of(reached)
+    let reached = reach::reach(lent(facts, steps, needs, sets, clears, costs, start, goal));
+    answers::write_set(reached.map(|reached| reached.set), set);
+    reached.into()
 }
 
-// What becomes of a walk, given by the numbers of its steps. Refusals 1 to 5, 8 and 9.
+/// What becomes of a walk, given by the numbers of its steps. Refusals 1 to 5, 8 and 9.
 pub fn salgezhim_replay(
     facts: usize,
     steps: usize,
@@ -66,7 +61,6 @@ pub fn salgezhim_replay(
 ) -> ReplayAnswer
     ensures { result ≡ replay_answer_of (replayed_of (tables facts steps needs.now sets.now clears.now costs.now start.now goal.now) walk.now) }
 {
-    let task = Task { facts, steps };
-    let replayed = replay::replay(task, needs, sets, clears, costs, start, goal, walk);
-    answers::replay_answer_of(replayed)
+    let tables = lent(facts, steps, needs, sets, clears, costs, start, goal);
+    replay::replay(tables, walk).into()
 }

@@ -9,10 +9,13 @@
 //
 // The row of a step has no function here: it is four words of the caller's own table of needs or sets,
 // from 4 times the step number on.
+//
+// Stays eight parameters for a task, and its tables named in each clause: the C interface.
 #![tactic(auto)]
 
 mod answers;
 mod finding;
+mod lending;
 mod passing;
 mod reading;
 mod tabling;

@@ -1,15 +1,16 @@
 // Must-pass facts and steps.
 ghost use Rattle.std.specs.Prelude.{◌≡◌};
-ghost use Rattle.task.specs.Tables.{tables, view};
-ghost use Rattle.must.specs.Answer.{pass_verdict, passed_by, taken_by};
+ghost use Rattle.task.specs.Tables.{tables};
+ghost use Rattle.must.specs.Answer.{pass_verdict, passed_of, taken_of};
 ghost use Rattle.exports.specs.Answers.{answer_of};
 ghost use Rattle.exports.specs.Written.{passed_written, taken_written};
 
 use crate::answers;
 use crate::answers::Answer;
-use task::Task;
+use crate::lending::lent;
 
-// The facts that every way to the goal passes. Refusals 1 to 5, and 7 where there is no way.
+/// The facts that every way to the goal passes. Refusals 1 to 5, and 7 where there is no way.
+#[tactic(auto, unfolding(must::specs::Answer::passed_of, task::specs::Refusal::answered))]
 pub fn salgezhim_must_facts(
     facts: usize,
     steps: usize,
@@ -22,17 +23,15 @@ pub fn salgezhim_must_facts(
     set: &mut [u64; 4],
 ) -> Answer
     ensures answer { result ≡ answer_of (pass_verdict (tables facts steps needs.now sets.now clears.now costs.now start.now goal.now)) }
-    ensures set { set.new ≡ passed_written (passed_by (pass_verdict (tables facts steps needs.now sets.now clears.now costs.now start.now goal.now)) (view (tables facts steps needs.now sets.now clears.now costs.now start.now goal.now))) set.old }
+    ensures set { set.new ≡ passed_written (passed_of (tables facts steps needs.now sets.now clears.now costs.now start.now goal.now)) set.old }
 {
-    let task = Task { facts, steps };
-    let passed = must::must_pass(task, needs, sets, clears, costs, start, goal);
-    let verdict = passed.verdict;
-    let words = passed.facts.words;
-    answers::write_facts(verdict, words, set);
-    answers::answer_of(verdict)
+    let passed = must::must_pass(lent(facts, steps, needs, sets, clears, costs, start, goal));
+    answers::write_set(passed, set);
+    passed.into()
 }
 
-// The steps that every way to the goal takes. Refusals 1 to 5, and 7 where there is no way.
+/// The steps that every way to the goal takes. Refusals 1 to 5, and 7 where there is no way.
+#[tactic(auto, unfolding(must::specs::Answer::taken_of, task::specs::Refusal::answered))]
 pub fn salgezhim_must_steps(
     facts: usize,
     steps: usize,
@@ -45,12 +44,9 @@ pub fn salgezhim_must_steps(
     set: &mut [u64; 16],
 ) -> Answer
     ensures answer { result ≡ answer_of (pass_verdict (tables facts steps needs.now sets.now clears.now costs.now start.now goal.now)) }
-    ensures set { set.new ≡ taken_written (taken_by (pass_verdict (tables facts steps needs.now sets.now clears.now costs.now start.now goal.now)) (view (tables facts steps needs.now sets.now clears.now costs.now start.now goal.now))) set.old }
+    ensures set { set.new ≡ taken_written (taken_of (tables facts steps needs.now sets.now clears.now costs.now start.now goal.now)) set.old }
 {
-    let task = Task { facts, steps };
-    let taken = must::must_take(task, needs, sets, clears, costs, start, goal);
-    let verdict = taken.verdict;
-    let words = taken.steps.words;
-    answers::write_steps(verdict, words, set);
-    answers::answer_of(verdict)
+    let taken = must::must_take(lent(facts, steps, needs, sets, clears, costs, start, goal));
+    answers::write_set(taken, set);
+    taken.into()
 }

@@ -7,11 +7,10 @@ ghost use Rattle.must.specs.Answer.{rows_verdict, rows_written};
 ghost use Rattle.cuts.specs.Answer.{cuts_verdict, cutting_by, cuts_written, prices_written, left_written};
 ghost use Rattle.exports.specs.Answers.{answer_of, cuts_answer_of};
 
-use crate::answers;
 use crate::answers::{Answer, CutsAnswer};
-use task::Task;
+use crate::lending::lent;
 
-// Writes the distance of each fact into the first n numbers lent. Refusals 1 to 6.
+/// Writes the distance of each fact into the first n numbers lent. Refusals 1 to 6.
 pub fn salgezhim_distances(
     facts: usize,
     steps: usize,
@@ -26,12 +25,11 @@ pub fn salgezhim_distances(
     ensures answer { result ≡ answer_of (distances_verdict (tables facts steps needs.now sets.now clears.now costs.now start.now goal.now) (length out.old)) }
     ensures table { out.new ≡ distances_written (tables facts steps needs.now sets.now clears.now costs.now start.now goal.now) out.old }
 {
-    let task = Task { facts, steps };
-    let verdict = distance::distances(task, needs, sets, clears, costs, start, goal, out);
-    answers::answer_of(verdict)
+    let tables = lent(facts, steps, needs, sets, clears, costs, start, goal);
+    distance::distances(tables, out).into()
 }
 
-// Writes the must row of each fact, four words a fact, into the first 4n words lent. Refusals 1 to 6.
+/// Writes the must row of each fact, four words a fact, into the first 4n words lent. Refusals 1 to 6.
 pub fn salgezhim_must_rows(
     facts: usize,
     steps: usize,
@@ -46,13 +44,12 @@ pub fn salgezhim_must_rows(
     ensures answer { result ≡ answer_of (rows_verdict (tables facts steps needs.now sets.now clears.now costs.now start.now goal.now) (length rows.old)) }
     ensures table { rows.new ≡ rows_written (rows_verdict (tables facts steps needs.now sets.now clears.now costs.now start.now goal.now) (length rows.old)) facts (must_row (view (tables facts steps needs.now sets.now clears.now costs.now start.now goal.now))) rows.old }
 {
-    let task = Task { facts, steps };
-    let verdict = must::must_rows(task, needs, sets, clears, costs, start, goal, rows);
-    answers::answer_of(verdict)
+    let tables = lent(facts, steps, needs, sets, clears, costs, start, goal);
+    must::must_rows(tables, rows).into()
 }
 
-// Writes the just-before row of each fact, four words a fact, into the first 4n words lent. Refusals
-// 1 to 6.
+/// Writes the just-before row of each fact, four words a fact, into the first 4n words lent. Refusals
+/// 1 to 6.
 pub fn salgezhim_just_before_rows(
     facts: usize,
     steps: usize,
@@ -67,13 +64,12 @@ pub fn salgezhim_just_before_rows(
     ensures answer { result ≡ answer_of (rows_verdict (tables facts steps needs.now sets.now clears.now costs.now start.now goal.now) (length rows.old)) }
     ensures table { rows.new ≡ rows_written (rows_verdict (tables facts steps needs.now sets.now clears.now costs.now start.now goal.now) (length rows.old)) facts (just_before (view (tables facts steps needs.now sets.now clears.now costs.now start.now goal.now))) rows.old }
 {
-    let task = Task { facts, steps };
-    let verdict = must::just_before_rows(task, needs, sets, clears, costs, start, goal, rows);
-    answers::answer_of(verdict)
+    let tables = lent(facts, steps, needs, sets, clears, costs, start, goal);
+    must::just_before_rows(tables, rows).into()
 }
 
-// Writes the cut of each round, sixteen words each, its cost, and the costs left after all rounds.
-// Refusals 1 to 7.
+/// Writes the cut of each round, sixteen words each, its cost, and the costs left after all rounds.
+/// Refusals 1 to 7.
 pub fn salgezhim_cuts(
     facts: usize,
     steps: usize,
@@ -92,9 +88,6 @@ pub fn salgezhim_cuts(
     ensures prices { prices.new ≡ prices_written (cuts_verdict (tables facts steps needs.now sets.now clears.now costs.now start.now goal.now) (length rows.old) (length prices.old) (length left.old)) (view (tables facts steps needs.now sets.now clears.now costs.now start.now goal.now)) prices.old }
     ensures left { left.new ≡ left_written (cuts_verdict (tables facts steps needs.now sets.now clears.now costs.now start.now goal.now) (length rows.old) (length prices.old) (length left.old)) (view (tables facts steps needs.now sets.now clears.now costs.now start.now goal.now)) left.old }
 {
-    let task = Task { facts, steps };
-    let cutting = cuts::cuts(
-        task, needs, sets, clears, costs, start, goal, rows, prices, left,
-    );
-    answers::cuts_answer_of(cutting)
+    let tables = lent(facts, steps, needs, sets, clears, costs, start, goal);
+    cuts::cuts(tables, rows, prices, left).into()
 }
