@@ -4,6 +4,8 @@
 // A table is a slice, which C passes as a pointer and a length in entries; a set that comes back is an
 // array of four words (facts) or sixteen (steps), which C passes as a pointer alone. No function has a
 // `requires`.
+//
+// Stays eight parameters for a task, and its tables named in each clause: the C interface.
 #![tactic(auto)]
 
 ghost use Rattle.std.specs.Prelude.{◌≡◌, length};
@@ -13,7 +15,7 @@ ghost use Rattle.reach.specs.Answer.{reached_of};
 ghost use Rattle.replay.specs.Replay.{replayed_of};
 ghost use Rattle.distance.specs.Answer.{distances_verdict, distances_written};
 ghost use Rattle.must.specs.Must.{must_row, just_before};
-ghost use Rattle.must.specs.Answer.{rows_verdict, rows_written, pass_verdict, passed_by, taken_by};
+ghost use Rattle.must.specs.Answer.{rows_verdict, rows_written, pass_verdict, passed_of, taken_of};
 ghost use Rattle.cuts.specs.Answer.{cuts_verdict, cutting_by, cuts_written, prices_written, left_written};
 ghost use Rattle.taskfile.specs.Judging.{file_verdict};
 ghost use Rattle.taskfile.specs.Meaning.{file_tables};
@@ -23,7 +25,7 @@ ghost use Rattle.exports.specs.Written.{reach_written, passed_written, taken_wri
 
 use exports::{Answer, CutsAnswer, ReachAnswer, ReadAnswer, ReplayAnswer};
 
-// What is wrong with a task's sizes and tables, if anything. Refusals 1 to 5.
+/// What is wrong with a task's sizes and tables, if anything. Refusals 1 to 5.
 #[unsafe(no_mangle)]
 pub extern "C" fn salgezhim_check(
     facts: usize,
@@ -40,7 +42,7 @@ pub extern "C" fn salgezhim_check(
     exports::salgezhim_check(facts, steps, needs, sets, clears, costs, start, goal)
 }
 
-// The facts within reach, clearing ignored, and the number of passes. Refusals 1 to 5.
+/// The facts within reach, clearing ignored, and the number of passes. Refusals 1 to 5.
 #[unsafe(no_mangle)]
 pub extern "C" fn salgezhim_reach(
     facts: usize,
@@ -59,7 +61,7 @@ pub extern "C" fn salgezhim_reach(
     exports::salgezhim_reach(facts, steps, needs, sets, clears, costs, start, goal, set)
 }
 
-// What becomes of a walk, given by the numbers of its steps. Refusals 1 to 5, 8 and 9.
+/// What becomes of a walk, given by the numbers of its steps. Refusals 1 to 5, 8 and 9.
 #[unsafe(no_mangle)]
 pub extern "C" fn salgezhim_replay(
     facts: usize,
@@ -77,7 +79,7 @@ pub extern "C" fn salgezhim_replay(
     exports::salgezhim_replay(facts, steps, needs, sets, clears, costs, start, goal, walk)
 }
 
-// Writes the distance of each fact into the first n numbers lent. Refusals 1 to 6.
+/// Writes the distance of each fact into the first n numbers lent. Refusals 1 to 6.
 #[unsafe(no_mangle)]
 pub extern "C" fn salgezhim_distances(
     facts: usize,
@@ -96,7 +98,7 @@ pub extern "C" fn salgezhim_distances(
     exports::salgezhim_distances(facts, steps, needs, sets, clears, costs, start, goal, out)
 }
 
-// Writes the must row of each fact, four words a fact, into the first 4n words lent. Refusals 1 to 6.
+/// Writes the must row of each fact, four words a fact, into the first 4n words lent. Refusals 1 to 6.
 #[unsafe(no_mangle)]
 pub extern "C" fn salgezhim_must_rows(
     facts: usize,
@@ -115,8 +117,8 @@ pub extern "C" fn salgezhim_must_rows(
     exports::salgezhim_must_rows(facts, steps, needs, sets, clears, costs, start, goal, rows)
 }
 
-// Writes the just-before row of each fact, four words a fact, into the first 4n words lent. Refusals
-// 1 to 6.
+/// Writes the just-before row of each fact, four words a fact, into the first 4n words lent. Refusals
+/// 1 to 6.
 #[unsafe(no_mangle)]
 pub extern "C" fn salgezhim_just_before_rows(
     facts: usize,
@@ -135,8 +137,8 @@ pub extern "C" fn salgezhim_just_before_rows(
     exports::salgezhim_just_before_rows(facts, steps, needs, sets, clears, costs, start, goal, rows)
 }
 
-// Writes the cut of each round, sixteen words each, its cost, and the costs left after all rounds.
-// Refusals 1 to 7.
+/// Writes the cut of each round, sixteen words each, its cost, and the costs left after all rounds.
+/// Refusals 1 to 7.
 #[unsafe(no_mangle)]
 pub extern "C" fn salgezhim_cuts(
     facts: usize,
@@ -161,7 +163,7 @@ pub extern "C" fn salgezhim_cuts(
     )
 }
 
-// The facts that every way to the goal passes. Refusals 1 to 5, and 7 where there is no way.
+/// The facts that every way to the goal passes. Refusals 1 to 5, and 7 where there is no way.
 #[unsafe(no_mangle)]
 pub extern "C" fn salgezhim_must_facts(
     facts: usize,
@@ -175,12 +177,12 @@ pub extern "C" fn salgezhim_must_facts(
     set: &mut [u64; 4],
 ) -> Answer
     ensures answer { result ≡ answer_of (pass_verdict (tables facts steps needs.now sets.now clears.now costs.now start.now goal.now)) }
-    ensures set { set.new ≡ passed_written (passed_by (pass_verdict (tables facts steps needs.now sets.now clears.now costs.now start.now goal.now)) (view (tables facts steps needs.now sets.now clears.now costs.now start.now goal.now))) set.old }
+    ensures set { set.new ≡ passed_written (passed_of (tables facts steps needs.now sets.now clears.now costs.now start.now goal.now)) set.old }
 {
     exports::salgezhim_must_facts(facts, steps, needs, sets, clears, costs, start, goal, set)
 }
 
-// The steps that every way to the goal takes. Refusals 1 to 5, and 7 where there is no way.
+/// The steps that every way to the goal takes. Refusals 1 to 5, and 7 where there is no way.
 #[unsafe(no_mangle)]
 pub extern "C" fn salgezhim_must_steps(
     facts: usize,
@@ -194,13 +196,13 @@ pub extern "C" fn salgezhim_must_steps(
     set: &mut [u64; 16],
 ) -> Answer
     ensures answer { result ≡ answer_of (pass_verdict (tables facts steps needs.now sets.now clears.now costs.now start.now goal.now)) }
-    ensures set { set.new ≡ taken_written (taken_by (pass_verdict (tables facts steps needs.now sets.now clears.now costs.now start.now goal.now)) (view (tables facts steps needs.now sets.now clears.now costs.now start.now goal.now))) set.old }
+    ensures set { set.new ≡ taken_written (taken_of (tables facts steps needs.now sets.now clears.now costs.now start.now goal.now)) set.old }
 {
     exports::salgezhim_must_steps(facts, steps, needs, sets, clears, costs, start, goal, set)
 }
 
-// Reads a task into the tables lent: 4m words of needs, sets and clears, m costs, 4 words of start and
-// goal. Refusals 1, 2, 5, 6 and 11 to 16, at offsets of the file.
+/// Reads a task into the tables lent: 4m words of needs, sets and clears, m costs, 4 words of start and
+/// goal. Refusals 1, 2, 5, 6 and 11 to 16, at offsets of the file.
 #[unsafe(no_mangle)]
 pub extern "C" fn salgezhim_read(
     file: &[u8],
