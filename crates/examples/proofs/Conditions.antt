@@ -14,6 +14,7 @@ use Rattle.sets.proofs.Words.{row_lt}
 use Rattle.task.specs.Tables.{Tables, view}
 use Rattle.task.specs.Walks.{goal_holds}
 use Rattle.task.specs.Check.{wrong_facts, wrong_steps, right_lengths, only_facts, right_sets, right_costs}
+use Rattle.task.proofs.Checking.{costs_all}
 use Rattle.reach.specs.Reach.{reach}
 use Rattle.replay.specs.Replay.{first_past}
 use Rattle.replay.proofs.Judging.{past_is, past_none, past_most}
@@ -94,8 +95,7 @@ sets_when t =
     (not_both_when _ _ (past_when _ _) (not_both_when _ _ (past_when _ _) (not_both_when _ _ (past_when _ _) (past_when _ _))))
 
 pub costs_when : (t : Tables) → Is (no (right_costs t.costs)) ↔ CostAbove t
-unfolding right_costs
-costs_when t = (
+costs_when t = rw (costs_all t.costs) (
   (λ h. let s = all_not (length t.costs) _ (no_false _ h) in (s.0, s.1, (below_when 65535 _).0 (opposite _ s.2))),
   (λ c. no_true _ (all_fails (length t.costs) _ c.0 c.1 (no_of _ (below_true 65535 _ c.2)))),
 )

@@ -1,54 +1,45 @@
 -- Five wrong libraries, each shut out by what the definitions give for document 01's first task: the contracts promise that, and it would say something else.
-use Prim.Native.Nat.{ℕ, ◌*◌}
-use mathlib.Core.Path.{◌≡◌, sym, ap, ◌∙◌}
+use Prim.Native.Nat.{ℕ}
+use mathlib.Core.Path.{◌≡◌, refl, sym, ap, ◌∙◌}
 use mathlib.Core.List.{List, [], ◌∷◌, ◌++◌}
 use native.Mathlib.Omega.{arith}
 use lib.ListN.{get_or, drop}
-use Rattle.sets.specs.Tests.{Is}
-use Rattle.sets.proofs.Tests.{both_l, both_r, same_at}
-use Rattle.task.specs.declared.verdict.Verdict.{Verdict}
-use Rattle.task.specs.declared.verdict.Verdict.TheVariants.{Fine, Refused}
+use Rattle.std.specs.Prelude.{Ok, Err}
+use Rattle.sets.specs.declared.bits.Bits.{Bits}
+use Rattle.task.specs.declared.refusal.Refusal.{Refusal}
 use Rattle.task.specs.Limits.{limits}
 use Rattle.task.specs.Tables.{Tables, view}
+use Rattle.task.specs.Refusal.{Verdict}
 use Rattle.task.specs.Check.{verdict_of}
 use Rattle.task.proofs.Refusals.{refused_fine}
+use Rattle.reach.specs.declared.Reached.{Reached}
 use Rattle.reach.specs.Answer.{reached_of}
 use Rattle.distance.specs.Distance.{distances}
 use Rattle.distance.specs.Answer.{distances_verdict, written_by}
-use Rattle.must.specs.Answer.{pass_verdict, passed_by}
-use Rattle.cuts.specs.Answer.{cuts_verdict, cutting_by, cuts_written}
+use Rattle.must.specs.Answer.{passed_of}
+use Rattle.cuts.specs.declared.Cutting.{Cutting}
+use Rattle.cuts.specs.Answer.{cutting_by, cuts_written}
 use Rattle.examples.specs.Table.{report}
-use Rattle.examples.specs.Claim.{told, sixteen_words, cut_rows, right_check, right_reach, right_distances, right_must, right_cuts, right, all_of, all_right}
-use Rattle.examples.proofs.Examples.{examples, same_list_at, told_back, verdict_from}
+use Rattle.examples.specs.Claim.{cuts_judged, Right}
+use Rattle.examples.proofs.Examples.{examples}
 
 abbrev first : Tables
 first = report.task
 
 -- what is said of it in the table
-said : Is (right report)
-unfolding all_right all_of
-said = both_l _ _ examples
-
-cuts_said : Is (right_cuts report)
-unfolding right
-cuts_said = both_l _ _ (both_r _ _ (both_r _ _ (both_r _ _ (both_r _ _ (both_r _ _ said)))))
+said : Right report
+said = examples 0 report (omega arith)
 
 -- one that refuses all
-pub not_refused : (k p : ℕ) → ¬ (verdict_of first ≡ Refused k p)
-unfolding right right_check told
-not_refused k p e =
-    let fine : verdict_of first ≡ Fine = sym (told_back (verdict_of first)) ∙ ap verdict_from (same_list_at _ _ (both_l _ _ said)) in refused_fine (sym e ∙ fine)
+pub not_refused : (r : Refusal) → ¬ (verdict_of first ≡ Err r)
+not_refused r e = refused_fine (sym e ∙ said.check)
 
 -- one that reports an empty list and floor 0 always
-pub not_empty : ¬ ((passed_by (pass_verdict first) (view first)).facts.words ≡ 0 ∷ 0 ∷ 0 ∷ 0 ∷ [])
-unfolding right right_must
-not_empty e =
-    let must = same_list_at _ _ (both_r _ _ (both_l _ _ (both_r _ _ (both_r _ _ (both_r _ _ said))))) in
-    let word : ◌≡◌ {A = ℕ} 0 29 = ap (λ (ws : List ℕ). get_or ws 0 0) (sym e ∙ must) in omega arith
+pub not_empty : (set : Bits 4) × (passed_of first ≡ Ok set) × ¬ (set.words ≡ 0 ∷ 0 ∷ 0 ∷ 0 ∷ [])
+not_empty = (_, said.must, (λ e. let word : ◌≡◌ {A = ℕ} 29 0 = ap (λ (ws : List ℕ). get_or ws 0 0) e in omega arith))
 
-pub floor_told : (cutting_by (cuts_verdict first (16 * 5) 5 5) (view first)).floor ≡ 5
-unfolding right_cuts
-floor_told = same_at _ _ (both_r _ _ (both_r _ _ (both_r _ _ (both_r _ _ (both_r _ _ cuts_said)))))
+pub floor_told : (c : Cutting) × (cutting_by (cuts_judged report) (view first) ≡ Ok c) × (c.floor ≡ 5)
+floor_told = (_, said.cutting, refl)
 
 -- one that writes nothing: a table of distances, whatever it held, begins with the distance of fact 0
 first_entry : (x : ℕ) (xs ws zs : List ℕ) → xs ++ [] ≡ x ∷ ws → get_or (xs ++ zs) 0 0 ≡ x
@@ -57,25 +48,20 @@ first_entry x (y ∷ ys) ws zs e = cc
 
 first_written : (v : Verdict) (x : ℕ) (ws before : List ℕ) → written_by v first [] ≡ x ∷ ws → get_or (written_by v first before) 0 0 ≡ x
 unfolding written_by
-first_written Fine x ws before e = first_entry x (distances (view first) (view first).cost limits.mark) ws (drop 5 before) e
-first_written (Refused k p) x ws before e = let z : ◌≡◌ {A = ℕ} 0 1 = cc in absurd (omega arith)
+first_written (Ok done) x ws before e = first_entry x (distances (view first) (view first).cost limits.mark) ws (drop 5 before) e
+first_written (Err r) x ws before e = let z : ◌≡◌ {A = ℕ} 0 1 = cc in absurd (omega arith)
 
 pub something_written : (before : List ℕ) → get_or (written_by (distances_verdict first 5) first before) 0 0 ≡ 1
-unfolding right right_distances
-something_written before = first_written _ 1 _ before (same_list_at _ _ (both_l _ _ (both_r _ _ (both_r _ _ said))))
+something_written before = first_written _ 1 _ before said.distances
 
 -- one that makes the first cut and then repeats it
-pub not_repeated : let rows = cuts_written (cuts_verdict first (16 * 5) 5 5) (view first) [] in ¬ (get_or rows 16 0 ≡ get_or rows 0 0)
-unfolding right_cuts cut_rows sixteen_words
+pub not_repeated : let rows = cuts_written (cuts_judged report) (view first) [] in ¬ (get_or rows 16 0 ≡ get_or rows 0 0)
 not_repeated e =
-    let rows = same_list_at _ _ (both_l _ _ (both_r _ _ cuts_said)) in
-    let words : ◌≡◌ {A = ℕ} 8 16 = sym (ap (λ (ws : List ℕ). get_or ws 16 0) rows) ∙ e ∙ ap (λ (ws : List ℕ). get_or ws 0 0) rows in omega arith
+    let words : ◌≡◌ {A = ℕ} 8 16 = sym (ap (λ (ws : List ℕ). get_or ws 16 0) said.rows) ∙ e ∙ ap (λ (ws : List ℕ). get_or ws 0 0) said.rows in omega arith
 
 -- one that invents its number of passes or rounds
-pub passes_told : (reached_of first).passes ≡ 4
-unfolding right right_reach
-passes_told = same_at _ _ (both_r _ _ (both_r _ _ (both_l _ _ (both_r _ _ said))))
+pub passes_told : (reached : Reached) × (reached_of first ≡ Ok reached) × (reached.passes ≡ 4)
+passes_told = (_, said.reach, refl)
 
-pub rounds_told : (cutting_by (cuts_verdict first (16 * 5) 5 5) (view first)).rounds ≡ 4
-unfolding right_cuts
-rounds_told = same_at _ _ (both_l _ _ (both_r _ _ (both_r _ _ (both_r _ _ (both_r _ _ cuts_said)))))
+pub rounds_told : (c : Cutting) × (cutting_by (cuts_judged report) (view first) ≡ Ok c) × (c.rounds ≡ 4)
+rounds_told = (_, said.cutting, refl)

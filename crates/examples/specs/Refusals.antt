@@ -1,59 +1,62 @@
--- Document 01's table of refusals: the condition of each number in document 01's words, and which of them each operation can give, lowest first.
-use Rattle.std.specs.Prelude.{ℕ, ◌*◌, ◌/◌, ◌≤◌, ◌<◌, ◌≡◌, List, [], ◌∷◌, ◌++◌, ◌⊎◌, ◌↔◌, length, get_or}
+-- Document 01's table of refusals: the condition of each number in document 01's words, and which of them each operation can give, lowest first. The numbers
+-- are those of the faults.
+use Rattle.std.specs.Prelude.{ℕ, ◌*◌, ◌/◌, ◌≤◌, ◌<◌, ◌≡◌, List, [], ◌∷◌, ◌++◌, ◌⊎◌, ◌↔◌, length, get_or, Contains, Result, Ok, Err}
 use Rattle.sets.specs.Tests.{Is}
 use Rattle.sets.specs.Words.{has, row}
-use Rattle.task.specs.declared.verdict.Verdict.{Verdict}
-use Rattle.task.specs.declared.verdict.Verdict.TheVariants.{Fine, Refused}
+use Rattle.task.specs.declared.refusal.Fault.{Fault}
+use Rattle.task.specs.declared.refusal.Fault.TheVariants as fault
+use Rattle.task.specs.declared.refusal.Refusal.{Refusal}
+use Rattle.task.specs.Refusal.{Verdict, number_of, refusal}
 use Rattle.task.specs.Tables.{Tables, view}
 use Rattle.task.specs.Walks.{way_to_goal}
 use Rattle.replay.specs.Replay.{first_past}
 
 -- ---- what is said of an answer
 
--- a refusal that an operation can give: its number, the place that it carries, and when it applies
-pub record Refusal : Type 1 where
-  pub number : ℕ
-  pub place : ℕ
+-- a refusal that an operation can give, and when it applies
+pub record Rule : Type 1 where
+  pub refusal : Refusal
   pub when : Type 0
 
 -- one at place 0
-abbrev pub refusal : ℕ → Type 0 → Refusal
-refusal number when = record { number = number; place = 0; when = when }
+abbrev pub rule : Fault → Type 0 → Rule
+rule fault when = record { refusal = refusal fault 0; when = when }
 
-abbrev pub numbers_of : List Refusal → List ℕ
+abbrev pub numbers_of : List Rule → List ℕ
 numbers_of [] = []
-numbers_of (r ∷ rs) = r.number ∷ numbers_of rs
+numbers_of (q ∷ qs) = number_of q.refusal.fault ∷ numbers_of qs
 
 -- none of them applies
-abbrev pub NoneApplies : List Refusal → Type 0
+abbrev pub NoneApplies : List Rule → Type 0
 NoneApplies [] = Unit {0}
-NoneApplies (r ∷ rs) = ¬ r.when × NoneApplies rs
+NoneApplies (q ∷ qs) = ¬ q.when × NoneApplies qs
 
--- the first of them that applies has this number and this place
-abbrev pub FirstThatApplies : ℕ → ℕ → List Refusal → Type 0
-FirstThatApplies k p [] = ⊥
-FirstThatApplies k p (r ∷ rs) = (r.when × (r.number ≡ k) × (r.place ≡ p)) ⊎ (¬ r.when × FirstThatApplies k p rs)
-
-abbrev pub OneOf : ℕ → List ℕ → Type 0
-OneOf k [] = ⊥
-OneOf k (n ∷ ns) = (k ≡ n) ⊎ OneOf k ns
+-- the first of them that applies is this one
+abbrev pub FirstThatApplies : Refusal → List Rule → Type 0
+FirstThatApplies r [] = ⊥
+FirstThatApplies r (q ∷ qs) = (q.when × (q.refusal ≡ r)) ⊎ (¬ q.when × FirstThatApplies r qs)
 
 -- the verdict v of an operation that can give these refusals, listed by rising numbers
-pub record Judged (numbers : List ℕ) (rs : List Refusal) (v : Verdict) : Type 0 where
+pub record Judged (numbers : List ℕ) (qs : List Rule) (v : Verdict) : Type 0 where
   -- it is an answer or a refusal of one of these numbers
-  pub ends : (v ≡ Fine) ⊎ ((k : ℕ) × (p : ℕ) × OneOf k numbers × (v ≡ Refused k p))
+  pub ends : (v ≡ Ok tt) ⊎ ((r : Refusal) × Contains numbers (number_of r.fault) × (v ≡ Err r))
   -- nothing is refused exactly if none of them applies
-  pub answers : (v ≡ Fine) ↔ NoneApplies rs
+  pub answers : (v ≡ Ok tt) ↔ NoneApplies qs
   -- a refusal is given exactly if it applies and none of a lower number does
-  pub refuses : (k p : ℕ) → (v ≡ Refused k p) ↔ FirstThatApplies k p rs
+  pub refuses : (r : Refusal) → (v ≡ Err r) ↔ FirstThatApplies r qs
+
+-- what an operation refuses; a value is an answer
+abbrev pub refused_by : {A : Type 0} → Result A Refusal → Verdict
+refused_by (Ok value) = Ok tt
+refused_by (Err r) = Err r
 
 -- a refusal is at place 0
 abbrev pub AtZero : Verdict → Type 0
-AtZero v = (k p : ℕ) → v ≡ Refused k p → p ≡ 0
+AtZero v = (r : Refusal) → v ≡ Err r → r.place ≡ 0
 
 -- after a refusal a lent table is as it was before the call
 abbrev pub Untouched : Verdict → List ℕ → List ℕ → Type 0
-Untouched v before after = (k p : ℕ) → v ≡ Refused k p → after ≡ before
+Untouched v before after = (r : Refusal) → v ≡ Err r → after ≡ before
 
 -- ---- the conditions
 
@@ -92,37 +95,43 @@ FirstPast m w i = (i < length w) × (m ≤ get_or w i 0) × ((j : ℕ) → j < i
 
 -- ---- which operation can give which
 
-abbrev pub size_refusals : ℕ → ℕ → List Refusal
-size_refusals n m = refusal 1 ((n ≡ 0) ⊎ (256 < n)) ∷ refusal 2 (1024 < m) ∷ []
+-- 1 and 2
+abbrev pub size_refusals : ℕ → ℕ → List Rule
+size_refusals n m = rule fault.FactCount ((n ≡ 0) ⊎ (256 < n)) ∷ rule fault.StepCount (1024 < m) ∷ []
 
 -- checking and reach: 1 to 5
-abbrev pub task_refusals : Tables → List Refusal
-task_refusals t = size_refusals t.facts t.steps ++ refusal 3 (OtherLength t) ∷ refusal 4 (SetPast t) ∷ refusal 5 (CostAbove t) ∷ []
+abbrev pub task_refusals : Tables → List Rule
+task_refusals t =
+    size_refusals t.facts t.steps
+    ++ rule fault.TableLength (OtherLength t) ∷ rule fault.FactNumber (SetPast t) ∷ rule fault.StepCost (CostAbove t) ∷ []
 
 -- distances, must rows and just-before rows: 1 to 6, with a result table of `room` entries where `least` are asked for
-abbrev pub table_refusals : Tables → ℕ → ℕ → List Refusal
-table_refusals t room least = task_refusals t ++ refusal 6 (room < least) ∷ []
+abbrev pub table_refusals : Tables → ℕ → ℕ → List Rule
+table_refusals t room least = task_refusals t ++ rule fault.ShortResult (room < least) ∷ []
 
 -- must-pass facts and steps: 1 to 5 and 7
-abbrev pub pass_refusals : Tables → List Refusal
-pass_refusals t = task_refusals t ++ refusal 7 (NoWay t) ∷ []
+abbrev pub pass_refusals : Tables → List Rule
+pass_refusals t = task_refusals t ++ rule fault.NoWay (NoWay t) ∷ []
 
 -- cuts: 1 to 7, with 16m words, m costs and m left costs asked for
-abbrev pub cut_refusals : Tables → ℕ → ℕ → ℕ → List Refusal
+abbrev pub cut_refusals : Tables → ℕ → ℕ → ℕ → List Rule
 cut_refusals t words prices left =
-    task_refusals t ++ refusal 6 ((words < 16 * t.steps) ⊎ ((prices < t.steps) ⊎ (left < t.steps))) ∷ refusal 7 (NoWay t) ∷ []
+    task_refusals t
+    ++ rule fault.ShortResult ((words < 16 * t.steps) ⊎ ((prices < t.steps) ⊎ (left < t.steps))) ∷ rule fault.NoWay (NoWay t) ∷ []
 
 -- replaying a walk: 1 to 5, 8 and 9, which carries the first such entry
-abbrev pub walk_refusals : Tables → List ℕ → List Refusal
+abbrev pub walk_refusals : Tables → List ℕ → List Rule
 walk_refusals t w =
-    task_refusals t ++ refusal 8 (65535 < length w) ∷ record { number = 9; place = first_past t.steps w; when = EntryPast t.steps w } ∷ []
+    task_refusals t
+    ++ rule fault.WalkLength (65535 < length w)
+    ∷ record { refusal = refusal fault.StepNumber (first_past t.steps w); when = EntryPast t.steps w } ∷ []
 
 -- the row of a step: 1, 2, 3 of the two tables, 9 and 10
-abbrev pub row_refusals : ℕ → ℕ → List ℕ → List ℕ → ℕ → ℕ → List Refusal
+abbrev pub row_refusals : ℕ → ℕ → List ℕ → List ℕ → ℕ → ℕ → List Rule
 row_refusals n m needs sets step which =
     size_refusals n m
-    ++ refusal 3 ((¬ (length needs ≡ 4 * m)) ⊎ (¬ (length sets ≡ 4 * m)))
-    ∷ refusal 9 (m ≤ step) ∷ refusal 10 ((¬ (which ≡ 0)) × (¬ (which ≡ 1))) ∷ []
+    ++ rule fault.TableLength ((¬ (length needs ≡ 4 * m)) ⊎ (¬ (length sets ≡ 4 * m)))
+    ∷ rule fault.StepNumber (m ≤ step) ∷ rule fault.RowKind ((¬ (which ≡ 0)) × (¬ (which ≡ 1))) ∷ []
 
 -- the reader: what it can find wrong with a record, and 16 before any record is looked at
 abbrev pub file_numbers : List ℕ
@@ -131,6 +140,6 @@ file_numbers = 1 ∷ 2 ∷ 5 ∷ 6 ∷ 11 ∷ 12 ∷ 13 ∷ 14 ∷ 15 ∷ 16 ∷
 -- the verdict v on a file
 pub record FileJudged (file : List ℕ) (v : Verdict) : Type 0 where
   -- it is an answer or a refusal of one of these numbers, at an offset of the file or at its length
-  pub ends : (v ≡ Fine) ⊎ ((k : ℕ) × (p : ℕ) × OneOf k file_numbers × (p ≤ length file) × (v ≡ Refused k p))
+  pub ends : (v ≡ Ok tt) ⊎ ((r : Refusal) × Contains file_numbers (number_of r.fault) × (r.place ≤ length file) × (v ≡ Err r))
   -- 16 is given exactly if the file is longer than 65,535 bytes
-  pub long : (v ≡ Refused 16 65535) ↔ (65535 < length file)
+  pub long : (v ≡ Err (refusal fault.FileLength 65535)) ↔ (65535 < length file)

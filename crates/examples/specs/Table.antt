@@ -1,10 +1,14 @@
 -- Document 01's examples P1 to P12: each task with the answers that document 01 gives for it. A value marked "by hand" is not in document 01; it was worked out
 -- from its rules on paper. Sets are written as lists of their members.
-use Rattle.std.specs.Prelude.{ℕ, ◌+◌, ◌^◌, List, [], ◌∷◌, ◌++◌, length}
-use Rattle.task.specs.declared.verdict.Verdict.{Verdict}
-use Rattle.task.specs.declared.verdict.Verdict.TheVariants.{Fine, Refused}
+use Rattle.std.specs.Prelude.{ℕ, ◌+◌, ◌^◌, List, [], ◌∷◌, ◌++◌, length, Result, Ok, Err}
+use Rattle.sets.specs.declared.bits.Bits.{Bits}
+use Rattle.task.specs.declared.refusal.Fault.TheVariants.{NoWay}
+use Rattle.task.specs.declared.refusal.Refusal.{Refusal}
 use Rattle.task.specs.Limits.{limits}
+use Rattle.task.specs.Refusal.{Verdict, refusal}
 use Rattle.task.specs.Tables.{Tables, tables}
+use Rattle.reach.specs.declared.Reached.{Reached}
+use Rattle.cuts.specs.declared.Cutting.{Cutting}
 use Rattle.replay.specs.declared.Replayed.{Replayed}
 use Rattle.replay.specs.declared.Replayed.TheVariants.{Done, Stuck, Short}
 
@@ -41,6 +45,13 @@ lent n steps start goal =
 
 -- ---- a row of the table
 
+-- a set of facts, and a set of steps below 64
+abbrev pub facts : List ℕ → Bits 4
+facts fs = record { words = four_words fs }
+
+abbrev pub steps : List ℕ → Bits 16
+steps ss = record { words = four_words ss ++ 0 ∷ 0 ∷ 0 ∷ 0 ∷ 0 ∷ 0 ∷ 0 ∷ 0 ∷ 0 ∷ 0 ∷ 0 ∷ 0 ∷ [] }
+
 -- a round's cut and its cost
 pub record Cut : Type 0 where
   pub steps : List ℕ
@@ -57,22 +68,26 @@ cut steps cost = record { steps = steps; cost = cost }
 abbrev walk : List ℕ → Replayed → Walk
 walk steps answer = record { steps = steps; answer = answer }
 
--- a task with the answers of all operations: the verdict of checking; reach with its passes; distances; whether must-pass facts, must-pass steps and cuts
--- are refused, and what they are; the costs left, the number of rounds and the floor; and some walks
+-- a task with the answers of all operations: checking; reach with its passes; distances; must-pass facts and must-pass steps; the number of rounds of cuts and
+-- the floor; the cuts themselves and the costs left; and some walks
 pub record Row : Type 0 where
   pub task : Tables
   pub checked : Verdict
-  pub reached : List ℕ
-  pub passes : ℕ
+  pub reached : Result Reached Refusal
   pub distances : List ℕ
-  pub way : Verdict
-  pub must : List ℕ
-  pub take : List ℕ
+  pub must : Result (Bits 4) Refusal
+  pub take : Result (Bits 16) Refusal
+  pub cutting : Result Cutting Refusal
   pub cuts : List Cut
   pub left : List ℕ
-  pub rounds : ℕ
-  pub floor : ℕ
   pub walks : List Walk
+
+-- reach, and what cutting counts, where nothing is refused
+abbrev in_passes : List ℕ → ℕ → Result Reached Refusal
+in_passes fs passes = Ok (record { set = facts fs; passes = passes })
+
+abbrev rounds_and_floor : ℕ → ℕ → Result Cutting Refusal
+rounds_and_floor rounds floor = Ok (record { rounds = rounds; floor = floor })
 
 -- ---- the rows
 
@@ -82,17 +97,14 @@ report = record {
   task =
       lent 5 (step [] (0 ∷ []) 1 ∷ step (0 ∷ []) (1 ∷ 2 ∷ []) 3 ∷ step (0 ∷ []) (2 ∷ []) 1 ∷ step (0 ∷ []) (3 ∷ []) 2 ∷ step (2 ∷ 3 ∷ []) (4 ∷ []) 1 ∷ []) []
       (4 ∷ []);
-  checked = Fine;
-  reached = 0 ∷ 1 ∷ 2 ∷ 3 ∷ 4 ∷ [];
-  passes = 4;
+  checked = Ok tt;
+  reached = in_passes (0 ∷ 1 ∷ 2 ∷ 3 ∷ 4 ∷ []) 4;
   distances = 1 ∷ 4 ∷ 2 ∷ 3 ∷ 4 ∷ [];
-  way = Fine;
-  must = 0 ∷ 2 ∷ 3 ∷ 4 ∷ [];
-  take = 0 ∷ 3 ∷ 4 ∷ [];
+  must = Ok (facts (0 ∷ 2 ∷ 3 ∷ 4 ∷ []));
+  take = Ok (steps (0 ∷ 3 ∷ 4 ∷ []));
+  cutting = rounds_and_floor 4 5;
   cuts = cut (4 ∷ []) 1 ∷ cut (3 ∷ []) 2 ∷ cut (1 ∷ 2 ∷ []) 1 ∷ cut (0 ∷ []) 1 ∷ [];
   left = 0 ∷ 2 ∷ 0 ∷ 0 ∷ 0 ∷ [];
-  rounds = 4;
-  floor = 5;
   walks = walk (0 ∷ 2 ∷ 3 ∷ 4 ∷ []) (Done 5) ∷ walk (0 ∷ 4 ∷ []) (Stuck 1) ∷ walk [] Short ∷ [];
 }
 
@@ -103,17 +115,14 @@ of001 = record {
   task =
       lent 5 (step (0 ∷ []) (1 ∷ 2 ∷ []) 3 ∷ step (0 ∷ []) (1 ∷ 3 ∷ []) 4 ∷ step (0 ∷ []) (2 ∷ 3 ∷ []) 5 ∷ step (1 ∷ 2 ∷ 3 ∷ []) (4 ∷ []) 0 ∷ []) (0 ∷ [])
       (4 ∷ []);
-  checked = Fine;
-  reached = 0 ∷ 1 ∷ 2 ∷ 3 ∷ 4 ∷ [];
-  passes = 3;
+  checked = Ok tt;
+  reached = in_passes (0 ∷ 1 ∷ 2 ∷ 3 ∷ 4 ∷ []) 3;
   distances = 0 ∷ 3 ∷ 3 ∷ 4 ∷ 4 ∷ [];
-  way = Fine;
-  must = 0 ∷ 1 ∷ 2 ∷ 3 ∷ 4 ∷ [];
-  take = 3 ∷ [];
+  must = Ok (facts (0 ∷ 1 ∷ 2 ∷ 3 ∷ 4 ∷ []));
+  take = Ok (steps (3 ∷ []));
+  cutting = rounds_and_floor 2 5;
   cuts = cut (1 ∷ 2 ∷ []) 4 ∷ cut (0 ∷ 2 ∷ []) 1 ∷ [];
   left = 2 ∷ 0 ∷ 0 ∷ 0 ∷ [];
-  rounds = 2;
-  floor = 5;
   walks = [];
 }
 
@@ -122,17 +131,14 @@ of001 = record {
 abbrev pub at_start : Row
 at_start = record {
   task = lent 3 (step (0 ∷ []) (1 ∷ []) 1 ∷ []) (0 ∷ 2 ∷ []) (2 ∷ []);
-  checked = Fine;
-  reached = 0 ∷ 1 ∷ 2 ∷ [];
-  passes = 2;
+  checked = Ok tt;
+  reached = in_passes (0 ∷ 1 ∷ 2 ∷ []) 2;
   distances = 0 ∷ 1 ∷ 0 ∷ [];
-  way = Fine;
-  must = 2 ∷ [];
-  take = [];
+  must = Ok (facts (2 ∷ []));
+  take = Ok (steps []);
+  cutting = rounds_and_floor 0 0;
   cuts = [];
   left = 1 ∷ [];
-  rounds = 0;
-  floor = 0;
   walks = walk [] (Done 0) ∷ [];
 }
 
@@ -141,17 +147,14 @@ at_start = record {
 abbrev pub no_way : Row
 no_way = record {
   task = lent 1 [] [] (0 ∷ []);
-  checked = Fine;
-  reached = [];
-  passes = 1;
+  checked = Ok tt;
+  reached = in_passes [] 1;
   distances = limits.mark ∷ [];
-  way = Refused 7 0;
-  must = [];
-  take = [];
+  must = Err (refusal NoWay 0);
+  take = Err (refusal NoWay 0);
+  cutting = Err (refusal NoWay 0);
   cuts = [];
   left = [];
-  rounds = 0;
-  floor = 0;
   walks = walk [] Short ∷ [];
 }
 
@@ -160,17 +163,14 @@ no_way = record {
 abbrev pub two_steps : Row
 two_steps = record {
   task = lent 1 (step [] (0 ∷ []) 2 ∷ step [] (0 ∷ []) 3 ∷ []) [] (0 ∷ []);
-  checked = Fine;
-  reached = 0 ∷ [];
-  passes = 2;
+  checked = Ok tt;
+  reached = in_passes (0 ∷ []) 2;
   distances = 2 ∷ [];
-  way = Fine;
-  must = 0 ∷ [];
-  take = [];
+  must = Ok (facts (0 ∷ []));
+  take = Ok (steps []);
+  cutting = rounds_and_floor 1 2;
   cuts = cut (0 ∷ 1 ∷ []) 2 ∷ [];
   left = 0 ∷ 1 ∷ [];
-  rounds = 1;
-  floor = 2;
   walks = [];
 }
 
@@ -178,17 +178,14 @@ two_steps = record {
 abbrev pub set_not_needed : Row
 set_not_needed = record {
   task = lent 2 (step [] (0 ∷ 1 ∷ []) 1 ∷ []) [] (0 ∷ []);
-  checked = Fine;
-  reached = 0 ∷ 1 ∷ [];
-  passes = 2;
+  checked = Ok tt;
+  reached = in_passes (0 ∷ 1 ∷ []) 2;
   distances = 1 ∷ 1 ∷ [];
-  way = Fine;
-  must = 0 ∷ [];
-  take = 0 ∷ [];
+  must = Ok (facts (0 ∷ []));
+  take = Ok (steps (0 ∷ []));
+  cutting = rounds_and_floor 1 1;
   cuts = cut (0 ∷ []) 1 ∷ [];
   left = 0 ∷ [];
-  rounds = 1;
-  floor = 1;
   walks = [];
 }
 
@@ -196,17 +193,14 @@ set_not_needed = record {
 abbrev pub set_and_cleared : Row
 set_and_cleared = record {
   task = lent 1 (record { needs = []; sets = 0 ∷ []; clears = 0 ∷ []; cost = 7 } ∷ []) [] (0 ∷ []);
-  checked = Fine;
-  reached = 0 ∷ [];
-  passes = 2;
+  checked = Ok tt;
+  reached = in_passes (0 ∷ []) 2;
   distances = 7 ∷ [];
-  way = Fine;
-  must = 0 ∷ [];
-  take = 0 ∷ [];
+  must = Ok (facts (0 ∷ []));
+  take = Ok (steps (0 ∷ []));
+  cutting = rounds_and_floor 1 7;
   cuts = cut (0 ∷ []) 7 ∷ [];
   left = 0 ∷ [];
-  rounds = 1;
-  floor = 7;
   walks = walk (0 ∷ []) (Done 7) ∷ [];
 }
 
