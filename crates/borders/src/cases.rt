@@ -1,179 +1,158 @@
 // The cases, each a line: what was asked, and what the library answers.
-use crate::line;
-use sets::{Facts, Steps};
+use crate::line::{answer, tell};
+use sets::{Bits, Facts, Few, Steps};
 use std::io;
-use task::Task;
+use task::{Sizes, Tables};
 
-// A number put into the empty set of facts, and taken out of the full one.
-pub fn fact(rt: &impl Print, f: usize) -> io::Result<()> {
-    let one = Facts::empty().with(f);
-    let words = one.words;
-    print!(rt; "fact {f}: words")?;
-    line::tell_all(rt, &words)?;
-    println!(rt;
-        ", size {}, lowest {}, all but it {}",
-        one.size(),
-        one.lowest(),
-        Facts::up_to(Facts::ROOM).without(f).size()
+/// A number put into the empty set of facts, and taken out of the full one.
+pub fn fact(rt: &impl Print, number: usize) -> io::Result<()> {
+    print!(rt; "fact {number}: words")?;
+    tell(rt, Facts::empty().with(number).words.iter())?;
+    print!(rt; ", ")?;
+    one_member::<4>(rt, number, Facts::ROOM)
+}
+
+/// A number put into the empty set of steps, and taken out of the full one.
+pub fn step(rt: &impl Print, number: usize) -> io::Result<()> {
+    print!(rt; "step {number}: ")?;
+    one_member::<16>(rt, number, Steps::ROOM)
+}
+
+// The set of one number and the set of all others, of those that there is room for.
+fn one_member<const WORDS: usize>(rt: &impl Print, number: usize, room: usize) -> io::Result<()>
+where
+    Bits<WORDS>: Few<WORDS>,
+{
+    let one = Bits::<WORDS>::empty().with(number);
+    let others = Bits::<WORDS>::up_to(room).without(number);
+    // A value of the generic type goes into one call alone, so a copy goes into the other.
+    let same = one;
+    let (size, lowest) = (one.size(), same.lowest().unwrap_or(room));
+    let others = others.size();
+    println!(rt; "size {size}, lowest {lowest}, all but it {others}")
+}
+
+/// Checks tasks of so many facts and one step where a table of sets holds one fact: the last fact
+/// and the number after it, in the needs, sets, clears, start and goal.
+pub fn last_fact(rt: &impl Print, facts: usize) -> io::Result<()> {
+    for table in 0..5 {
+        for fact in facts.saturating_sub(1)..=facts {
+            let one = Facts::empty().with(fact);
+            let mut held = [Facts::empty(); 5];
+            held[table] = one;
+            let [needs, sets, clears, start, goal] = held;
+            print!(rt; "facts {facts}, table {table}, fact {fact}")?;
+            check(
+                rt,
+                Tables {
+                    sizes: Sizes { facts, steps: 1 },
+                    needs: &needs.words,
+                    sets: &sets.words,
+                    clears: &clears.words,
+                    costs: &[1],
+                    start: &start.words,
+                    goal: &goal.words,
+                },
+            )?;
+        }
+    }
+    Ok(())
+}
+
+/// Checks a task of one step that costs so much.
+pub fn cost(rt: &impl Print, cost: u32) -> io::Result<()> {
+    print!(rt; "cost {cost}")?;
+    check(
+        rt,
+        Tables {
+            sizes: Sizes { facts: 1, steps: 1 },
+            needs: &[0; 4],
+            sets: &[0; 4],
+            clears: &[0; 4],
+            costs: &[cost],
+            start: &[0; 4],
+            goal: &[0; 4],
+        },
     )
 }
 
-// A number put into the empty set of steps, and taken out of the full one.
-pub fn step(rt: &impl Print, s: usize) -> io::Result<()> {
-    let one = Steps::empty().with(s);
-    println!(rt;
-        "step {s}: size {}, lowest {}, all but it {}",
-        one.size(),
-        one.lowest(),
-        Steps::up_to(Steps::ROOM).without(s).size()
-    )
-}
-
-// The words of a set, where it is asked for, and of the empty set otherwise.
-fn words_if(asked: bool, set: Facts) -> [u64; 4] {
-    if asked {
-        return set.words;
-    }
-    Facts::empty().words
-}
-
-// Checks a task of n facts and one step whose table of that number holds one fact.
-fn check_fact(rt: &impl Print, n: usize, fact: usize, table: usize) -> io::Result<()> {
-    let set = Facts::empty().with(fact);
-    let needs = words_if(table == 0, set);
-    let sets = words_if(table == 1, set);
-    let clears = words_if(table == 2, set);
-    let start = words_if(table == 3, set);
-    let goal = words_if(table == 4, set);
-    let costs = [1u32];
-    let task = Task { facts: n, steps: 1 };
-    print!(rt; "facts {n}, table {table}, fact {fact}")?;
-    line::answer(
-        rt,
-        task::check(task, &needs, &sets, &clears, &costs, &start, &goal),
-    )?;
-    println!(rt)
-}
-
-// The last fact of a task and the number after it, in the needs, sets, clears, start and goal.
-pub fn last_fact(rt: &impl Print, n: usize) -> io::Result<()> {
-    last_fact_in(rt, n, 0)?;
-    last_fact_in(rt, n, 1)?;
-    last_fact_in(rt, n, 2)?;
-    last_fact_in(rt, n, 3)?;
-    last_fact_in(rt, n, 4)
-}
-
-fn last_fact_in(rt: &impl Print, n: usize, table: usize) -> io::Result<()> {
-    if 0 < n {
-        check_fact(rt, n, n - 1, table)?;
-    }
-    check_fact(rt, n, n, table)
-}
-
-// Checks a task of one step that costs so much.
-pub fn cost(rt: &impl Print, c: u32) -> io::Result<()> {
-    let words = Facts::empty().words;
-    let costs = [c];
-    let task = Task { facts: 1, steps: 1 };
-    print!(rt; "cost {c}")?;
-    line::answer(
-        rt,
-        task::check(task, &words, &words, &words, &costs, &words, &words),
-    )?;
-    println!(rt)
-}
-
-// The first n words of a table; all of them where it has fewer.
-fn first_words(table: &[u64], n: usize) -> &[u64] {
-    if table.len() < n {
-        return table;
-    }
-    &table[0..n]
-}
-
-// The first n costs.
-fn first_costs(costs: &[u32], n: usize) -> &[u32] {
-    if costs.len() < n {
-        return costs;
-    }
-    &costs[0..n]
-}
-
-// Checks a task of so many facts and steps, with so many words of needs, sets and clears, so many
-// costs, and so many words of start and goal.
+/// Checks a task of so many facts and steps, with so many words of needs, sets and clears, so many
+/// costs, and so many words of start and goal.
 pub fn sizes(
     rt: &impl Print,
-    n: usize,
-    m: usize,
+    sizes: Sizes,
     words: usize,
     costs: usize,
     ends: usize,
 ) -> io::Result<()> {
-    let rows = [0u64; 4100];
-    let prices = [0u32; 1025];
-    let sets = [0u64; 8];
-    let table = first_words(&rows, words);
-    let list = first_costs(&prices, costs);
-    let set = first_words(&sets, ends);
-    let task = Task { facts: n, steps: m };
-    print!(rt; "facts {n}, steps {m}, words {words}, costs {costs}, ends {ends}")?;
-    line::answer(rt, task::check(task, table, table, table, list, set, set))?;
-    println!(rt)
-}
-
-// Checks a task of three facts and one step that has so many words of needs, which hold one fact, and
-// costs so much.
-pub fn two_faults(rt: &impl Print, words: usize, fact: usize, cost: u32) -> io::Result<()> {
-    let set = Facts::empty().with(fact);
-    let row = set.words;
-    let needs = first_words(&row, words);
-    let none = Facts::empty().words;
-    let costs = [cost];
-    let task = Task { facts: 3, steps: 1 };
-    print!(rt; "facts 3, words {words}, fact {fact}, cost {cost}")?;
-    line::answer(
+    let rows = [0; 4100];
+    let table = first(&rows, words);
+    let end = first(&rows, ends);
+    let (facts, steps) = (sizes.facts, sizes.steps);
+    print!(rt; "facts {facts}, steps {steps}, words {words}, costs {costs}, ends {ends}")?;
+    check(
         rt,
-        task::check(task, needs, &none, &none, &costs, &none, &none),
-    )?;
+        Tables {
+            sizes,
+            needs: table,
+            sets: table,
+            clears: table,
+            costs: first(&[0; 1025], costs),
+            start: end,
+            goal: end,
+        },
+    )
+}
+
+/// Checks a task of three facts and one step that has so many words of needs, which hold one fact,
+/// and costs so much.
+pub fn two_faults(rt: &impl Print, words: usize, fact: usize, cost: u32) -> io::Result<()> {
+    print!(rt; "facts 3, words {words}, fact {fact}, cost {cost}")?;
+    check(
+        rt,
+        Tables {
+            sizes: Sizes { facts: 3, steps: 1 },
+            needs: first(&Facts::empty().with(fact).words, words),
+            sets: &[0; 4],
+            clears: &[0; 4],
+            costs: &[cost],
+            start: &[0; 4],
+            goal: &[0; 4],
+        },
+    )
+}
+
+// What checking answers, to the line's end.
+fn check(rt: &impl Print, tables: Tables<'_>) -> io::Result<()> {
+    answer(rt, &task::check(tables))?;
     println!(rt)
 }
 
-// The row of a step of a task of so many facts and steps, with so many words of needs and of sets:
-// the words of needs are 100, 101 and so on, those of sets 200, 201 and so on.
+// The first values of a table, so many; all of them where it has fewer.
+fn first<T>(table: &[T], count: usize) -> &[T] {
+    &table[..count.min(table.len())]
+}
+
+/// The row of a step of a task of so many facts and steps, with so many words of needs and of sets:
+/// the words of needs are 100, 101 and so on, those of sets 200, 201 and so on.
 pub fn row(
     rt: &impl Print,
-    n: usize,
-    m: usize,
+    sizes: Sizes,
     needs: usize,
     sets: usize,
     step: usize,
     which: u8,
 ) -> io::Result<()> {
-    let first = [100u64, 101, 102, 103, 104, 105, 106, 107];
-    let second = [200u64, 201, 202, 203, 204, 205, 206, 207];
-    let task = Task { facts: n, steps: m };
-    print!(rt; "row: facts {n}, steps {m}, words {needs} {sets}, step {step}, which {which}")?;
-    line::answer(
-        rt,
-        task::check_row(
-            task,
-            first_words(&first, needs),
-            first_words(&second, sets),
-            step,
-            which,
-        ),
+    let (facts, steps) = (sizes.facts, sizes.steps);
+    print!(rt;
+        "row: facts {facts}, steps {steps}, words {needs} {sets}, step {step}, which {which}"
     )?;
+    let hundreds = [100, 101, 102, 103, 104, 105, 106, 107];
+    let two_hundreds = [200, 201, 202, 203, 204, 205, 206, 207];
+    let needs = first(&hundreds, needs);
+    let sets = first(&two_hundreds, sets);
+    answer(rt, &task::check_row(sizes, needs, sets, step, which))?;
     print!(rt; ", words")?;
-    line::tell_all(
-        rt,
-        task::step_row(
-            task,
-            first_words(&first, needs),
-            first_words(&second, sets),
-            step,
-            which,
-        ),
-    )?;
+    tell(rt, task::step_row(sizes, needs, sets, step, which).iter())?;
     println!(rt)
 }

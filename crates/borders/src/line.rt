@@ -1,48 +1,27 @@
 // Writing parts of a line of the output.
-use sets::{Facts, Steps};
+ghost use Rattle.std.specs.Iterator.{IsFinite};
+
+use std::fmt::Display;
 use std::io;
-use task::Verdict;
+use task::Refusal;
 
-// Writes a blank and each word.
-pub fn tell_all(rt: &impl Print, words: &[u64]) -> io::Result<()> {
-    for word in words {
-        print!(rt; " {word}")?;
+/// Writes a blank and each value.
+pub fn tell<I: Iterator + Drop>(rt: &impl Print, values: I) -> io::Result<()>
+where
+    I::Item: Display + Drop,
+    requires can { I.can_next values }
+    requires ends { IsFinite (I.remaining values) }
+{
+    for value in values {
+        print!(rt; " {value}")?;
     }
     Ok(())
 }
 
-// Writes a blank and each number.
-pub fn tell_numbers(rt: &impl Print, numbers: &[u32]) -> io::Result<()> {
-    for number in numbers {
-        print!(rt; " {number}")?;
-    }
-    Ok(())
-}
-
-// Writes a blank and each member of a set, lowest first.
-pub fn tell_set(rt: &impl Print, set: Facts) -> io::Result<()> {
-    for f in 0..Facts::ROOM {
-        if set.has(f) {
-            print!(rt; " {f}")?;
-        }
-    }
-    Ok(())
-}
-
-// Writes a blank and each member of a set of steps, lowest first.
-pub fn tell_steps(rt: &impl Print, set: Steps) -> io::Result<()> {
-    for s in 0..Steps::ROOM {
-        if set.has(s) {
-            print!(rt; " {s}")?;
-        }
-    }
-    Ok(())
-}
-
-// Writes what a check answered: nothing, or the refusal's number and place.
-pub fn answer(rt: &impl Print, verdict: Verdict) -> io::Result<()> {
-    match verdict {
-        Verdict::Fine => print!(rt; ": fine"),
-        Verdict::Refused(number, place) => print!(rt; ": refused {number} {place}"),
+/// Writes what an operation answered: that nothing is wrong, or the refusal.
+pub fn answer<T>(rt: &impl Print, answer: &Result<T, Refusal>) -> io::Result<()> {
+    match answer {
+        Ok(_) => print!(rt; ": fine"),
+        Err(refusal) => print!(rt; ": {refusal}"),
     }
 }

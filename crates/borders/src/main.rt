@@ -11,95 +11,98 @@ mod measures;
 mod tasks;
 
 use std::io;
+use task::Sizes;
 
 // The first number, both sides of each word's border, the last, and one past the last.
 fn facts(rt: &impl Print) -> io::Result<()> {
-    cases::fact(rt, 0)?;
-    cases::fact(rt, 63)?;
-    cases::fact(rt, 64)?;
-    cases::fact(rt, 127)?;
-    cases::fact(rt, 128)?;
-    cases::fact(rt, 191)?;
-    cases::fact(rt, 192)?;
-    cases::fact(rt, 255)?;
-    cases::fact(rt, 256)
+    for number in [0, 63, 64, 127, 128, 191, 192, 255, 256] {
+        cases::fact(rt, number)?;
+    }
+    Ok(())
 }
 
 fn steps(rt: &impl Print) -> io::Result<()> {
-    cases::step(rt, 0)?;
-    cases::step(rt, 63)?;
-    cases::step(rt, 64)?;
-    cases::step(rt, 1022)?;
-    cases::step(rt, 1023)?;
-    cases::step(rt, 1024)
+    for number in [0, 63, 64, 1022, 1023, 1024] {
+        cases::step(rt, number)?;
+    }
+    Ok(())
 }
 
 // The last fact and the number after it, in each table of sets.
 fn last_facts(rt: &impl Print) -> io::Result<()> {
-    cases::last_fact(rt, 1)?;
-    cases::last_fact(rt, 63)?;
-    cases::last_fact(rt, 64)?;
-    cases::last_fact(rt, 65)?;
-    cases::last_fact(rt, 255)?;
-    cases::last_fact(rt, 256)
+    for facts in [1, 63, 64, 65, 255, 256] {
+        cases::last_fact(rt, facts)?;
+    }
+    Ok(())
 }
 
 fn costs(rt: &impl Print) -> io::Result<()> {
-    cases::cost(rt, 0)?;
-    cases::cost(rt, 65534)?;
-    cases::cost(rt, 65535)?;
-    cases::cost(rt, 65536)?;
-    cases::cost(rt, 4294967295)
+    for cost in [0, 65534, 65535, 65536, 4294967295] {
+        cases::cost(rt, cost)?;
+    }
+    Ok(())
 }
 
-// Numbers of facts and steps, and lengths of tables.
+// Numbers of facts and steps, and lengths of tables, costs, and start and goal; at the end the
+// lowest refusal where two apply.
 fn sizes(rt: &impl Print) -> io::Result<()> {
-    cases::sizes(rt, 0, 0, 0, 0, 4)?;
-    cases::sizes(rt, 1, 0, 0, 0, 4)?;
-    cases::sizes(rt, 256, 0, 0, 0, 4)?;
-    cases::sizes(rt, 257, 0, 0, 0, 4)?;
-    cases::sizes(rt, 5, 0, 4, 0, 4)?;
-    cases::sizes(rt, 5, 0, 0, 1, 4)?;
-    cases::sizes(rt, 5, 1, 4, 1, 4)?;
-    cases::sizes(rt, 5, 1, 3, 1, 4)?;
-    cases::sizes(rt, 5, 1, 5, 1, 4)?;
-    cases::sizes(rt, 5, 1, 4, 0, 4)?;
-    cases::sizes(rt, 5, 1, 4, 2, 4)?;
-    cases::sizes(rt, 5, 1, 4, 1, 3)?;
-    cases::sizes(rt, 5, 1, 4, 1, 5)?;
-    cases::sizes(rt, 5, 1024, 4096, 1024, 4)?;
-    cases::sizes(rt, 5, 1024, 4095, 1024, 4)?;
-    cases::sizes(rt, 5, 1024, 4097, 1024, 4)?;
-    cases::sizes(rt, 5, 1024, 4096, 1025, 4)?;
-    cases::sizes(rt, 5, 1025, 4100, 1025, 4)
+    for (facts, steps, words, costs, ends) in [
+        (0, 0, 0, 0, 4),
+        (1, 0, 0, 0, 4),
+        (256, 0, 0, 0, 4),
+        (257, 0, 0, 0, 4),
+        (5, 0, 4, 0, 4),
+        (5, 0, 0, 1, 4),
+        (5, 1, 4, 1, 4),
+        (5, 1, 3, 1, 4),
+        (5, 1, 5, 1, 4),
+        (5, 1, 4, 0, 4),
+        (5, 1, 4, 2, 4),
+        (5, 1, 4, 1, 3),
+        (5, 1, 4, 1, 5),
+        (5, 1024, 4096, 1024, 4),
+        (5, 1024, 4095, 1024, 4),
+        (5, 1024, 4097, 1024, 4),
+        (5, 1024, 4096, 1025, 4),
+        (5, 1025, 4100, 1025, 4),
+        (0, 1025, 4100, 1025, 4),
+        (257, 1, 3, 1, 4),
+        (5, 1025, 4, 1, 4),
+    ] {
+        cases::sizes(rt, Sizes { facts, steps }, words, costs, ends)?;
+    }
+    Ok(())
 }
 
-// The lowest refusal where two apply.
-fn order(rt: &impl Print) -> io::Result<()> {
-    cases::sizes(rt, 0, 1025, 4100, 1025, 4)?;
-    cases::sizes(rt, 257, 1, 3, 1, 4)?;
-    cases::sizes(rt, 5, 1025, 4, 1, 4)?;
-    cases::two_faults(rt, 3, 3, 0)?;
-    cases::two_faults(rt, 4, 3, 65536)?;
-    cases::two_faults(rt, 3, 2, 65536)
+// The lowest refusal where two of a table's length, a fact and a cost apply.
+fn two_faults(rt: &impl Print) -> io::Result<()> {
+    for (words, fact, cost) in [(3, 3, 0), (4, 3, 65536), (3, 2, 65536)] {
+        cases::two_faults(rt, words, fact, cost)?;
+    }
+    Ok(())
 }
 
 // The row of a step.
 fn rows(rt: &impl Print) -> io::Result<()> {
-    cases::row(rt, 5, 2, 8, 8, 0, 0)?;
-    cases::row(rt, 5, 2, 8, 8, 0, 1)?;
-    cases::row(rt, 5, 2, 8, 8, 1, 0)?;
-    cases::row(rt, 5, 2, 8, 8, 1, 1)?;
-    cases::row(rt, 5, 2, 8, 8, 0, 2)?;
-    cases::row(rt, 5, 2, 8, 8, 2, 0)?;
-    cases::row(rt, 5, 2, 8, 8, 2, 2)?;
-    cases::row(rt, 5, 2, 7, 8, 0, 0)?;
-    cases::row(rt, 5, 2, 8, 7, 0, 0)?;
-    cases::row(rt, 5, 2, 7, 8, 2, 2)?;
-    cases::row(rt, 5, 0, 0, 0, 0, 0)?;
-    cases::row(rt, 0, 2, 8, 8, 0, 0)?;
-    cases::row(rt, 257, 1025, 8, 8, 0, 0)?;
-    cases::row(rt, 5, 1025, 8, 8, 0, 0)
+    for (facts, steps, needs, sets, step, which) in [
+        (5, 2, 8, 8, 0, 0),
+        (5, 2, 8, 8, 0, 1),
+        (5, 2, 8, 8, 1, 0),
+        (5, 2, 8, 8, 1, 1),
+        (5, 2, 8, 8, 0, 2),
+        (5, 2, 8, 8, 2, 0),
+        (5, 2, 8, 8, 2, 2),
+        (5, 2, 7, 8, 0, 0),
+        (5, 2, 8, 7, 0, 0),
+        (5, 2, 7, 8, 2, 2),
+        (5, 0, 0, 0, 0, 0),
+        (0, 2, 8, 8, 0, 0),
+        (257, 1025, 8, 8, 0, 0),
+        (5, 1025, 8, 8, 0, 0),
+    ] {
+        cases::row(rt, Sizes { facts, steps }, needs, sets, step, which)?;
+    }
+    Ok(())
 }
 
 fn main(rt: HostRuntime) -> io::Result<()> {
@@ -108,7 +111,7 @@ fn main(rt: HostRuntime) -> io::Result<()> {
     last_facts(&rt)?;
     costs(&rt)?;
     sizes(&rt)?;
-    order(&rt)?;
+    two_faults(&rt)?;
     rows(&rt)?;
     journeys::first_reach(&rt)?;
     journeys::first_walks(&rt)?;

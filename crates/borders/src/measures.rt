@@ -1,70 +1,53 @@
 // Distances in document 01's tasks, a line a case.
-use crate::line;
-use crate::tasks::{COSTS, COSTS_001, NEEDS, NEEDS_001, SETS, SETS_001};
+use crate::line::{answer, tell};
+use crate::tasks::{FIRST, SECOND};
 use std::io;
-use task::Task;
+use task::{Sizes, Tables};
 
-// Distances into a table of so many numbers, which held 7 each.
+// Distances from a start that is the goal too, into a table that is lent; the steps clear all that
+// they set, which makes no difference.
 fn distances_line(
     rt: &impl Print,
-    task: Task,
-    needs: &[u64],
-    sets: &[u64],
-    costs: &[u32],
-    start: &[u64],
-    room: usize,
+    name: &str,
+    tables: Tables<'_>,
+    table: &mut [u32],
 ) -> io::Result<()> {
-    let mut table = [7u32; 7];
-    if 7 < room {
-        return Ok(());
-    }
-    let out = &mut table[0..room];
-    line::answer(
-        rt,
-        distance::distances(task, needs, sets, sets, costs, start, start, out),
-    )?;
+    let tables = Tables {
+        clears: tables.sets,
+        goal: tables.start,
+        ..tables
+    };
+    print!(rt; "distances of {name}")?;
+    answer(rt, &distance::distances(tables, table))?;
     print!(rt; ", table")?;
-    line::tell_numbers(rt, out)?;
+    tell(rt, table.iter())?;
     println!(rt)
 }
 
-// The distances of both tasks, and tables that are longer or too short.
+/// The distances of both tasks, into tables that held 7 everywhere, and that are longer or too
+/// short.
 pub fn distances(rt: &impl Print) -> io::Result<()> {
-    let first = Task { facts: 5, steps: 5 };
-    print!(rt; "distances of the first task")?;
-    distances_line(rt, first, &NEEDS, &SETS, &COSTS, &[0, 0, 0, 0], 5)?;
-    print!(rt; "distances of the first task from 2")?;
-    distances_line(rt, first, &NEEDS, &SETS, &COSTS, &[4, 0, 0, 0], 7)?;
-    print!(rt; "distances of the first task, a table of 4")?;
-    distances_line(rt, first, &NEEDS, &SETS, &COSTS, &[0, 0, 0, 0], 4)?;
-    print!(rt; "distances of the first task, 4 facts")?;
+    let from_2 = Tables {
+        start: &[4, 0, 0, 0],
+        ..FIRST
+    };
+    let four_facts = Tables {
+        sizes: Sizes { facts: 4, steps: 5 },
+        ..FIRST
+    };
+    let from_nothing = Tables {
+        start: &[0; 4],
+        ..SECOND
+    };
+    distances_line(rt, "the first task", FIRST, &mut [7; 5])?;
+    distances_line(rt, "the first task from 2", from_2, &mut [7; 7])?;
+    distances_line(rt, "the first task, a table of 4", FIRST, &mut [7; 4])?;
+    distances_line(rt, "the first task, 4 facts", four_facts, &mut [7; 3])?;
+    distances_line(rt, "the task of 001", SECOND, &mut [7; 6])?;
     distances_line(
         rt,
-        Task { facts: 4, steps: 5 },
-        &NEEDS,
-        &SETS,
-        &COSTS,
-        &[0, 0, 0, 0],
-        3,
-    )?;
-    print!(rt; "distances of the task of 001")?;
-    distances_line(
-        rt,
-        Task { facts: 5, steps: 4 },
-        &NEEDS_001,
-        &SETS_001,
-        &COSTS_001,
-        &[1, 0, 0, 0],
-        6,
-    )?;
-    print!(rt; "distances of the task of 001 from nothing")?;
-    distances_line(
-        rt,
-        Task { facts: 5, steps: 4 },
-        &NEEDS_001,
-        &SETS_001,
-        &COSTS_001,
-        &[0, 0, 0, 0],
-        5,
+        "the task of 001 from nothing",
+        from_nothing,
+        &mut [7; 5],
     )
 }
