@@ -16,7 +16,10 @@ fn word(words: &[u64], i: usize) -> u64
 fn row_start(words: usize, number: usize, width: usize) -> usize
     ensures { result ≡ min (number * width) words }
 {
-    number.saturating_mul(width).min(words)
+    match number.checked_mul(width) {
+        Some(start) if start <= words => start,
+        _ => words,
+    }
 }
 
 // Makes words the numbers below n.
