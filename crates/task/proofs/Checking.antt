@@ -169,7 +169,6 @@ checked t e =
     let start_long = same_at _ _ (both_l _ _ long_5) in
     let goal_long = same_at _ _ (both_r _ _ long_5) in
     record {
-      fine = e;
       some_facts = sizes.some;
       few_facts = sizes.few;
       few_steps = sizes.short;

@@ -1,11 +1,9 @@
 -- What is known of tables that nothing is wrong with.
-use Rattle.std.specs.Prelude.{◌≡◌, ℕ, ◌*◌, ◌<◌, ◌≤◌, length, Ok}
+use Rattle.std.specs.Prelude.{◌≡◌, ℕ, ◌*◌, ◌<◌, ◌≤◌, length}
 use Rattle.sets.specs.Tests.{Is}
 use Rattle.task.specs.Tables.{Tables, view}
-use Rattle.task.specs.Check.{verdict_of}
 
 pub record Checked (t : Tables) : Type 0 where
-  pub fine : verdict_of t ≡ Ok tt
   pub some_facts : 0 < t.facts
   pub few_facts : t.facts ≤ 256
   pub few_steps : t.steps ≤ 1024

@@ -1,4 +1,6 @@
 // A task that was checked, and the limits within which every task stays.
+ghost use Rattle.std.specs.Prelude.{◌≡◌, Ok};
+ghost use Rattle.task.specs.Check.{verdict_of};
 ghost use Rattle.task.specs.Lent.{lent};
 ghost use Rattle.task.specs.Checked.{Checked};
 
@@ -10,6 +12,7 @@ use crate::tables::Tables;
 pub struct Task<'a> {
     pub tables: Tables<'a>,
     pub ghost valid: { Checked (lent tables) },
+    pub ghost fine: { verdict_of (lent tables) ≡ Ok tt },
 }
 
 /// The limits as values, for whoever cannot name a constant.
@@ -23,9 +26,8 @@ pub struct Limits {
 }
 
 impl<'a> Task<'a> {
-    ghost use Rattle.std.specs.Prelude.{◌≡◌, IfOk, IfErr, Ok, Err};
+    ghost use Rattle.std.specs.Prelude.{IfOk, IfErr, Err};
     ghost use Rattle.task.specs.Limits.{limits};
-    ghost use Rattle.task.specs.Check.{verdict_of};
 
     /// The most facts that a task has.
     pub const FACTS: usize = 256;
