@@ -9,3 +9,4 @@ pub mod Unions
 pub mod JustBefore
 pub mod OneWay
 pub mod TakingAll
+pub mod Filling

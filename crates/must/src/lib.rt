@@ -6,10 +6,10 @@
 #![tactic(auto)]
 
 mod before;
-mod filling;
 mod labels;
 mod passing;
 mod rows;
+mod table;
 mod taking;
 
 pub use before::just_before_rows;
