@@ -24,13 +24,13 @@ use Rattle.cuts.proofs.OneRound.{plain_distances}
 
 module _ {t : Tables} (valid : Checked t) where
   -- the steps that count, from the words of what is within reach
-  pub counted_begun : {reached counts : List ℕ} → reached ≡ words_of 4 (reach (view t)) → counts ≡ words_of 16 (counted_from t (has reached))
-      → counts ≡ words_of 16 (counted_from t (reach (view t)))
+  pub counted_begun : {reached counts : List ℕ} → reached ≡ words_of 4 (reach (view t)) → counts ≡ words_of 16 (counted_from (view t) (has reached))
+      → counts ≡ words_of 16 (counted_from (view t) (reach (view t)))
   counted_begun {reached} reached_is counted =
       counted
       ∙ words_of_same 16 _ _
-      (λ s l. counted_joined t valid (has reached) (λ f k. has_made 4 reached _ reached_is f (omega (arith, valid.few_facts))) s
-      ∙ sym (counted_joined t valid (reach (view t)) (λ f k. refl) s))
+      (λ s l. counted_joined (view t) valid.few_facts valid.needs_facts (has reached) (λ f k. has_made 4 reached _ reached_is f (omega (arith, valid.few_facts))) s
+      ∙ sym (counted_joined (view t) valid.few_facts valid.needs_facts (reach (view t)) (λ f k. refl) s))
 
   -- the distances under the task's costs
   pub settled_begun : {first off left table₁ table₂ : List ℕ} {size : ℕ} → size ≡ t.facts → first ≡ words_of 4 (has (row 4 0 t.start)) → off ≡ words_of 16 none

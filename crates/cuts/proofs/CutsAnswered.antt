@@ -1,11 +1,11 @@
 -- What `cuts` answers and leaves in the three lent tables, case by case: as the verdict of checking, the room for results and the way to the goal decide.
 use Prim.Native.Nat.{ℕ, ◌*◌}
-use mathlib.Core.Path.{◌≡◌, refl, sym, ap, ◌∙◌}
+use mathlib.Core.Path.{◌≡◌, refl, ap, ◌∙◌}
 use mathlib.Core.Bool.{Bool, false}
-use mathlib.Core.List.{List, [], ◌∷◌, ◌++◌}
+use mathlib.Core.List.{List, ◌++◌}
 use lib.ListN.{length, drop}
 use Rattle.std.specs.Prelude.{Result, Ok, Err}
-use Rattle.sets.specs.Tests.{Is, no, either, below}
+use Rattle.sets.specs.Tests.{Is, either, below}
 use Rattle.sets.proofs.Tests.{no_true}
 use Rattle.task.specs.declared.refusal.Fault.TheVariants.{ShortResult, NoWay}
 use Rattle.task.specs.declared.refusal.Refusal.{Refusal}

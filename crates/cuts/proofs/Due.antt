@@ -1,4 +1,5 @@
--- When rounds are due: a refusal that is given unless a test holds is the one that the verdict has, and what is read as within reach is what the verdict asks of.
+-- Why rounds are due: once checking and the room for results are in order, the verdict hangs on whether the goal is within reach, and that is what is tested;
+-- and tables that are not refused have the room, and a way, that the rounds ask for.
 use Prim.Native.Nat.{ℕ, ◌*◌, ◌≤◌}
 use mathlib.Core.Path.{◌≡◌, refl, sym, ap, ◌∙◌}
 use mathlib.Core.Bool.{Bool, true, false, not}
@@ -42,23 +43,8 @@ unfolding first_refusal or_else
 last_one (Ok done) = refl
 last_one (Err r) = refl
 
-module _ {t : Tables} (valid : Checked t) {off : List ℕ} (all_on : off ≡ words_of 16 none) {found : Reached} (reached : found ≡ reached_by (without (view t) (has off))) where
-  -- the set is what is within reach
-  pub reach_read : found.set.words ≡ words_of 4 (reach (view t))
-  unfolding reached_by
-  reach_read = ap (λ (r : Reached). r.set.words) (reached ∙ reached_all t all_on)
-
-  -- and the test is whether the goal is
-  pub way_told : {goals : List ℕ} → goals ≡ words_of 4 (has (row 4 0 t.goal)) → {q : Bool} → q ≡ within 256 (has goals) (has found.set.words)
-      → q ≡ goal_holds (view t) (reach (view t))
-  unfolding goal_holds
-  way_told goal_set tested =
-      tested ∙ ap (λ (X : Set). within 256 X (has found.set.words)) (goal_read t valid goal_set)
-      ∙ within_past t.facts 256 (has t.goal) (has found.set.words) valid.few_facts valid.goal_facts
-      ∙ within_same t.facts _ _ _ _ (λ f l. refl) (λ f l. has_made 4 found.set.words _ reach_read f (omega (arith, valid.few_facts)))
-
 -- where neither checking nor the room for results is in the way, the verdict is whether there is no way
-pub verdict_last : (t : Tables) (words prices left : ℕ) → verdict_of t ≡ Ok tt → {b q : Bool}
+verdict_last : (t : Tables) (words prices left : ℕ) → verdict_of t ≡ Ok tt → {b q : Bool}
     → b ≡ no (either (below words (16 * t.steps)) (either (below prices t.steps) (below left t.steps))) → refused_if (not b) ShortResult ≡ Ok tt
     → q ≡ goal_holds (view t) (reach (view t)) → cuts_verdict t words prices left ≡ refused_if (not q) NoWay
 unfolding cuts_verdict
@@ -67,6 +53,27 @@ verdict_last t words prices left fine {b} {q} room enough way =
     ∙ skip ShortResult _ (sym (not_no _) ∙ ap not (sym room) ∙ fine_if (not b) ShortResult enough)
     ∙ last_one (refused_if (no (goal_holds (view t) (reach (view t)))) NoWay)
     ∙ ap (λ (p : Bool). refused_if p NoWay) (no_not _ ∙ ap not (sym way))
+
+module _ {t : Tables} (valid : Checked t) {off : List ℕ} (all_on : off ≡ words_of 16 none) {found : Reached} (reached : found ≡ reached_by (without (view t) (has off))) where
+  -- the set is what is within reach
+  pub reach_read : found.set.words ≡ words_of 4 (reach (view t))
+  unfolding reached_by
+  reach_read = ap (λ (r : Reached). r.set.words) (reached ∙ reached_all t all_on)
+
+  -- and the test is whether the goal is
+  way_told : {goals : List ℕ} → goals ≡ words_of 4 (has (row 4 0 t.goal)) → {q : Bool} → q ≡ within 256 (has goals) (has found.set.words)
+      → q ≡ goal_holds (view t) (reach (view t))
+  unfolding goal_holds
+  way_told goal_set tested =
+      tested ∙ ap (λ (X : Set). within 256 X (has found.set.words)) (goal_read t valid goal_set)
+      ∙ within_past t.facts 256 (has t.goal) (has found.set.words) valid.few_facts valid.goal_facts
+      ∙ within_same t.facts _ _ _ _ (λ f l. refl) (λ f l. has_made 4 found.set.words _ reach_read f (omega (arith, valid.few_facts)))
+
+  -- so the verdict hangs on that test, where there is room for results
+  pub verdict_told : verdict_of t ≡ Ok tt → {goals : List ℕ} → goals ≡ words_of 4 (has (row 4 0 t.goal)) → {q : Bool} → q ≡ within 256 (has goals) (has found.set.words)
+      → (words prices left : ℕ) {b : Bool} → b ≡ no (either (below words (16 * t.steps)) (either (below prices t.steps) (below left t.steps)))
+      → refused_if (not b) ShortResult ≡ Ok tt → cuts_verdict t words prices left ≡ refused_if (not q) NoWay
+  verdict_told fine goal_set tested words prices left room enough = verdict_last t words prices left fine room enough (way_told goal_set tested)
 
 -- tables that are not refused have room for as many rounds as steps, and some way leads to the goal
 pub fine_room : (t : Tables) (words prices left : ℕ) → cuts_verdict t words prices left ≡ Ok tt

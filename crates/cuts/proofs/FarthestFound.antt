@@ -14,7 +14,8 @@ use Rattle.sets.proofs.Tests.{fails, equal_tests, compare}
 use Rattle.sets.proofs.Sets.{lowest_is}
 use Rattle.sets.proofs.Words.{has_made, made_has, row_lt}
 use Rattle.sets.proofs.Visiting.{visits_member, turn_lowest, turn_rest, turn_none}
-use Rattle.task.specs.Tables.{Tables}
+use Rattle.task.specs.Task.{Task}
+use Rattle.task.specs.Tables.{Tables, view}
 use Rattle.task.specs.Checked.{Checked}
 use Rattle.distance.specs.Distance.{entry}
 use Rattle.distance.proofs.Lists.{list_only}
@@ -100,8 +101,8 @@ module _ (n : ℕ) (X : Set) (d : ℕ → ℕ) (few : n ≤ 256) (below_n : (f :
 -- ---- the choices of all steps
 
 -- what the loop writes for a step
-abbrev pub choice_of : Tables → List ℕ → ℕ → ℕ
-choice_of t table s = lowest_farthest t.facts (has (row 4 s t.needs)) (entry table)
+abbrev pub choice_of : Task → List ℕ → ℕ → ℕ
+choice_of t table s = lowest_farthest t.facts (t.needs s) (entry table)
 
 module _ (t : Tables) (valid : Checked t) (s : ℕ) (read : List ℕ) (made : read ≡ words_of 4 (has (row 4 s t.needs))) where
   -- the words read hold only facts of the task
@@ -115,9 +116,9 @@ module _ (t : Tables) (valid : Checked t) (s : ℕ) (read : List ℕ) (made : re
       (λ x. has_made 4 read (has (row 4 s t.needs)) made f (row_lt 4 s t.needs f x) ∙ x))
 
   -- so the choice among them is the step's
-  pub choice_read : (table : List ℕ) (r : ℕ) → r ≡ lowest_farthest t.facts (has read) (entry table) → r ≡ choice_of t table s
+  pub choice_read : (table : List ℕ) (r : ℕ) → r ≡ lowest_farthest t.facts (has read) (entry table) → r ≡ choice_of (view t) table s
   choice_read table r e = e ∙ ap (λ (X : Set). lowest_farthest t.facts X (entry table)) read_row
 
-pub choices_written : (t : Tables) (table z : List ℕ) → length z ≡ t.steps → ((s : ℕ) → s < length z → entry z s ≡ choice_of t table s) → z ≡ chosen_from t table
+pub choices_written : (t : Task) (table z : List ℕ) → length z ≡ t.steps → ((s : ℕ) → s < length z → entry z s ≡ choice_of t table s) → z ≡ chosen_from t table
 unfolding chosen_from
 choices_written t table z size done = list_only t.steps (choice_of t table) z size (λ s l. done s (omega arith))

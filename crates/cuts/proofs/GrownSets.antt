@@ -1,4 +1,4 @@
--- The zone and the region are grown in place, and the order of the steps makes no difference: a set that holds the seeds, lies inside every closed set
+-- The zone and the region are grown step by step, and the order of the steps makes no difference: a set that holds the seeds, lies inside every closed set
 -- that holds them, and is closed itself is the least one.
 use Prim.Native.Nat.{ℕ, suc, ◌+◌, ◌≤◌, ◌<◌}
 use mathlib.Core.Path.{◌≡◌, refl, sym, ap, ap₂, ◌∙◌, fun_ext}
@@ -12,11 +12,12 @@ use lib.Dec.{eqb}
 use lib.ListN.{length, get_or}
 use Rattle.sets.specs.Tests.{Is, no, both, either, below, same}
 use Rattle.sets.specs.Sets.{Set, none, up_to, added, joined, met, removed, any, count}
-use Rattle.sets.specs.Words.{has, words_of, row}
+use Rattle.sets.specs.Words.{has, words_of}
 use Rattle.sets.proofs.Tests.{not_is, tell, fails, not_both_ways, equal_tests, both_l, both_r, both_true, both_comm, both_false_l, both_false_r, either_l, either_r, either_cases, no_true, no_false, below_true, below_at, below_false, same_at, same_false, same_not, same_iff, compare}
 use Rattle.sets.proofs.Sets.{any_true, any_at, count_lt, count_same, count_none}
 use Rattle.sets.proofs.Words.{has_made, made_has, words_of_same}
-use Rattle.task.specs.Tables.{Tables}
+use Rattle.task.specs.Task.{Task}
+use Rattle.task.specs.Tables.{Tables, view}
 use Rattle.task.specs.Checked.{Checked}
 use Rattle.reach.specs.Closing.{Facts, Closes}
 use Rattle.reach.specs.Least.{quiet, repeated, least}
@@ -44,14 +45,14 @@ unfolding no
 not_no true = refl
 not_no false = refl
 
-pub sets_told : (t : Tables) (X : Set) (s : ℕ) {own shared : List ℕ} {size : ℕ} → own ≡ words_of 4 (has (row 4 s t.sets))
+pub sets_told : (t : Task) (X : Set) (s : ℕ) {own shared : List ℕ} {size : ℕ} → own ≡ words_of 4 (t.sets s)
     → shared ≡ words_of 4 (met (has own) X) → size ≡ count 256 (has shared) → not (eqb size 0) ≡ sets_into t X s
 unfolding sets_into met same
 sets_told t X s {own} {shared} {size} e d counts =
     not_no _ ∙ ap (λ (k : ℕ). no (eqb k 0)) (counts ∙ count_same 256 (has shared) _ members)
-    ∙ sym (any_counted 256 (λ f. both (has (row 4 s t.sets) f) (X f)))
+    ∙ sym (any_counted 256 (λ f. both (t.sets s f) (X f)))
   where
-    members : (f : ℕ) → f < 256 → has shared f ≡ both (has (row 4 s t.sets) f) (X f)
+    members : (f : ℕ) → f < 256 → has shared f ≡ both (t.sets s f) (X f)
     members f l = has_made 4 shared _ d f l ∙ ap (λ (p : Bool). both p (X f)) (has_made 4 own _ e f l)
 
 -- ---- what one step adds to the zone, and to the region
@@ -69,7 +70,7 @@ adds_what n p P Y e h same_members below_n =
     e ∙ words_of_same 4 _ _ (λ f l. same_members f l ∙ equal_tests (P f) _
     (λ x. both_true (below f n) _ (below_true f n (below_n f x)) (both_true p (P f) h x)) (λ x. both_r p (P f) (both_r (below f n) _ x)))
 
-module _ (t : Tables) (costs : List ℕ) (counted : Set) (chosen : List ℕ) (zone : Set) (s : ℕ) {empty : List ℕ} (nothing : empty ≡ words_of 4 none) where
+module _ (t : Task) (costs : List ℕ) (counted : Set) (chosen : List ℕ) (zone : Set) (s : ℕ) {empty : List ℕ} (nothing : empty ≡ words_of 4 none) where
   -- the chosen need is "begin"
   pub tail_begin : {tail : ℕ} → tail ≡ entry chosen s → t.facts ≤ tail → empty ≡ words_of 4 (met (up_to t.facts) (zone_by t costs counted chosen zone s))
   unfolding met zone_by up_to none
@@ -91,17 +92,17 @@ module _ (t : Tables) (costs : List ℕ) (counted : Set) (chosen : List ℕ) (zo
         (λ f b. ap (λ (p : Bool). either p (same f (entry chosen s))) (has_made 4 empty _ nothing f b))
         (λ f x. omega (arith, same_at f (entry chosen s) x))
 
-module _ (t : Tables) (counted : Set) (chosen : List ℕ) (zone region : Set) (s : ℕ) {r : Bool} (told : r ≡ leads_from t counted chosen region s) where
+module _ (t : Task) (counted : Set) (chosen : List ℕ) (zone region : Set) (s : ℕ) {r : Bool} (told : r ≡ leads_from t counted chosen region s) where
   pub heads_none : r ≡ false → {empty : List ℕ} → empty ≡ words_of 4 none → empty ≡ words_of 4 (met (up_to t.facts) (region_by t counted chosen zone region s))
   unfolding region_by
-  heads_none h nothing = adds_nothing t.facts (leads_from t counted chosen region s) (removed (has (row 4 s t.sets)) zone) nothing (sym told ∙ h)
+  heads_none h nothing = adds_nothing t.facts (leads_from t counted chosen region s) (removed (t.sets s) zone) nothing (sym told ∙ h)
 
-  pub heads_some : Checked t → r ≡ true → {own made : List ℕ} → own ≡ words_of 4 (has (row 4 s t.sets)) → made ≡ words_of 4 (removed (has own) zone)
+  pub heads_some : ((f : ℕ) → Is (t.sets s f) → f < t.facts) → r ≡ true → {own made : List ℕ} → own ≡ words_of 4 (t.sets s) → made ≡ words_of 4 (removed (has own) zone)
       → made ≡ words_of 4 (met (up_to t.facts) (region_by t counted chosen zone region s))
   unfolding region_by removed
-  heads_some valid h {own} read made =
-      adds_what t.facts _ (removed (has (row 4 s t.sets)) zone) _ made (sym told ∙ h) (λ f b. ap (both (no (zone f))) (has_made 4 own _ read f b))
-      (λ f x. valid.sets_facts s f (both_r (no (zone f)) _ x))
+  heads_some sets_below h {own} read made =
+      adds_what t.facts _ (removed (t.sets s) zone) _ made (sym told ∙ h) (λ f b. ap (both (no (zone f))) (has_made 4 own _ read f b))
+      (λ f x. sets_below f (both_r (no (zone f)) _ x))
 
 -- ---- what a step adds to a set it adds to every larger one
 
@@ -111,18 +112,18 @@ both_more p q r more h = both_true q r (more (both_l p r h)) (both_r p r h)
 both_more_r : (p q r : Bool) → (Is q → Is r) → Is (both p q) → Is (both p r)
 both_more_r p q r more h = both_true p r (both_l p q h) (more (both_r p q h))
 
-zone_rising : (t : Tables) → Checked t → (costs : List ℕ) (counted : Set) (chosen : List ℕ) → RisingBy t.facts (zone_by t costs counted chosen)
+zone_rising : (t : Task) → ((s f : ℕ) → Is (t.sets s f) → f < t.facts) → (costs : List ℕ) (counted : Set) (chosen : List ℕ) → RisingBy t.facts (zone_by t costs counted chosen)
 unfolding zone_by free_into sets_into
-zone_rising t valid costs counted chosen X Y inside s u =
+zone_rising t sets_below costs counted chosen X Y inside s u =
     both_more _ _ (same u (entry chosen s)) (both_more_r (counted s) _ _ (both_more_r (same (entry costs s) 0) _ _ (λ h.
     let fact = any_at 256 _ h in
-    let set = both_l (has (row 4 s t.sets) fact.0) _ fact.2 in
-    any_true 256 _ fact.0 fact.1 (both_more_r _ (X fact.0) (Y fact.0) (inside fact.0 (valid.sets_facts s fact.0 set)) fact.2))))
+    let set = both_l (t.sets s fact.0) _ fact.2 in
+    any_true 256 _ fact.0 fact.1 (both_more_r _ (X fact.0) (Y fact.0) (inside fact.0 (sets_below s fact.0 set)) fact.2))))
 
-region_rising : (t : Tables) (counted : Set) (chosen : List ℕ) (zone : Set) → RisingBy t.facts (region_by t counted chosen zone)
+region_rising : (t : Task) (counted : Set) (chosen : List ℕ) (zone : Set) → RisingBy t.facts (region_by t counted chosen zone)
 unfolding region_by leads_from tail_in
 region_rising t counted chosen zone X Y inside s f =
-    both_more _ _ (removed (has (row 4 s t.sets)) zone f) (both_more_r (counted s) _ _ (λ h.
+    both_more _ _ (removed (t.sets s) zone f) (both_more_r (counted s) _ _ (λ h.
     elim (compare (entry chosen s) t.facts) [
       | inl l ↦
           elim (either_cases (no (below (entry chosen s) t.facts)) _ h) [
@@ -226,22 +227,25 @@ crossing true false c d = refl
 crossing false b c d = refl
 
 module _ (t : Tables) (valid : Checked t) (counted : Set) (chosen : List ℕ) (each : length chosen ≡ t.steps) where
+  abbrev T : Task
+  T = view t
+
   module _ (costs : List ℕ) (adds : ℕ → Facts → Facts → Type 0)
-      (added_is : (s : ℕ) (X Y : Facts) → s < length chosen → adds s X Y → Y.words ≡ words_of 4 (met (up_to t.facts) (zone_by t costs counted chosen (has X.words) s))) where
-    zone_ruled : RuledBy t.facts (length chosen) (zone_by t costs counted chosen) adds
-    zone_ruled = record { few = valid.few_facts; rising = zone_rising t valid costs counted chosen; added = added_is }
+      (added_is : (s : ℕ) (X Y : Facts) → s < length chosen → adds s X Y → Y.words ≡ words_of 4 (met (up_to t.facts) (zone_by T costs counted chosen (has X.words) s))) where
+    zone_ruled : RuledBy t.facts (length chosen) (zone_by T costs counted chosen) adds
+    zone_ruled = record { few = valid.few_facts; rising = zone_rising T valid.sets_facts costs counted chosen; added = added_is }
 
     -- the zone grows from the goal's choice
     pub zone_grown : (goal : ℕ) → goal < t.facts → {empty last zone : List ℕ} → empty ≡ words_of 4 none → last ≡ words_of 4 (added (has empty) goal)
         → ((n : ℕ) (by : Set → ℕ → Set) → RuledBy n (length chosen) by adds → ((f : ℕ) → Is (has last f) → f < n) → zone ≡ words_of 4 (grown_by n (length chosen) by (has last)))
-        → zone ≡ words_of 4 (zone_from t costs counted chosen goal)
+        → zone ≡ words_of 4 (zone_from T costs counted chosen goal)
     unfolding zone_from zone_by free_into added none either
     zone_grown goal l {empty} {last} nothing made grown =
-        grown t.facts (zone_by t costs counted chosen) zone_ruled last_below
+        grown t.facts (zone_by T costs counted chosen) zone_ruled last_below
         ∙ ap (words_of 4)
-        (grown_from t.facts (length chosen) (zone_by t costs counted chosen) _ (has last) (λ u. same u goal) (λ f b. last_is f (omega (arith, valid.few_facts)))
+        (grown_from t.facts (length chosen) (zone_by T costs counted chosen) _ (has last) (λ u. same u goal) (λ f b. last_is f (omega (arith, valid.few_facts)))
         (λ X u. ap₂ any each (fun_ext (λ s.
-        sym (ap (λ (p : Bool). both (counted s) (both (same (entry costs s) 0) (both p (sets_into t X s)))) (same_iff _ _ _ _ sym sym) ∙ regroup _ _ _ _)))))
+        sym (ap (λ (p : Bool). both (counted s) (both (same (entry costs s) 0) (both p (sets_into T X s)))) (same_iff _ _ _ _ sym sym) ∙ regroup _ _ _ _)))))
       where
         last_is : (f : ℕ) → f < 256 → has last f ≡ same f goal
         last_is f b = has_made 4 last _ made f b ∙ ap (λ (p : Bool). either p (same f goal)) (has_made 4 empty _ nothing f b)
@@ -254,41 +258,41 @@ module _ (t : Tables) (valid : Checked t) (counted : Set) (chosen : List ℕ) (e
             ]
 
   module _ (zone : Set) (adds : ℕ → Facts → Facts → Type 0)
-      (added_is : (s : ℕ) (X Y : Facts) → s < length chosen → adds s X Y → Y.words ≡ words_of 4 (met (up_to t.facts) (region_by t counted chosen zone (has X.words) s))) where
-    region_ruled : RuledBy t.facts (length chosen) (region_by t counted chosen zone) adds
-    region_ruled = record { few = valid.few_facts; rising = region_rising t counted chosen zone; added = added_is }
+      (added_is : (s : ℕ) (X Y : Facts) → s < length chosen → adds s X Y → Y.words ≡ words_of 4 (met (up_to t.facts) (region_by T counted chosen zone (has X.words) s))) where
+    region_ruled : RuledBy t.facts (length chosen) (region_by T counted chosen zone) adds
+    region_ruled = record { few = valid.few_facts; rising = region_rising T counted chosen zone; added = added_is }
 
     -- the region grows from the start
     pub region_grown : (start : List ℕ) {region : List ℕ} → has start ≡ has t.start
         → ((n : ℕ) (by : Set → ℕ → Set) → RuledBy n (length chosen) by adds → ((f : ℕ) → Is (has start f) → f < n) → region ≡ words_of 4 (grown_by n (length chosen) by (has start)))
-        → region ≡ words_of 4 (region_from t counted chosen zone)
+        → region ≡ words_of 4 (region_from T counted chosen zone)
     unfolding region_from region_by leads_from removed
     region_grown start first grown =
-        grown t.facts (region_by t counted chosen zone) region_ruled (rw first valid.start_facts)
+        grown t.facts (region_by T counted chosen zone) region_ruled (rw first valid.start_facts)
         ∙ ap (words_of 4)
-        (grown_from t.facts (length chosen) (region_by t counted chosen zone) _ (has start) (has t.start) (λ f l. ap (λ (X : Set). X f) first)
-        (λ X f. ap (λ (m : ℕ). any m (λ s. both (leads_from t counted chosen X s) (removed (has (row 4 s t.sets)) zone f))) each ∙ equal_tests _ _ (led X f) (leads X f)))
+        (grown_from t.facts (length chosen) (region_by T counted chosen zone) _ (has start) (has t.start) (λ f l. ap (λ (X : Set). X f) first)
+        (λ X f. ap (λ (m : ℕ). any m (λ s. both (leads_from T counted chosen X s) (removed (T.sets s) zone f))) each ∙ equal_tests _ _ (led X f) (leads X f)))
       where
-        led : (X : Set) (f : ℕ) → Is (any t.steps (λ s. both (both (counted s) (tail_in t chosen X s)) (both (no (zone f)) (has (row 4 s t.sets) f))))
-            → Is (both (no (zone f)) (any t.steps (λ s. both (counted s) (both (tail_in t chosen X s) (has (row 4 s t.sets) f)))))
+        led : (X : Set) (f : ℕ) → Is (any t.steps (λ s. both (both (counted s) (tail_in T chosen X s)) (both (no (zone f)) (T.sets s f))))
+            → Is (both (no (zone f)) (any t.steps (λ s. both (counted s) (both (tail_in T chosen X s) (T.sets s f)))))
         led X f h =
             let s = any_at t.steps _ h in
-            let from = both_l (both (counted s.0) (tail_in t chosen X s.0)) _ s.2 in
-            let out = both_r (both (counted s.0) (tail_in t chosen X s.0)) _ s.2 in
+            let from = both_l (both (counted s.0) (tail_in T chosen X s.0)) _ s.2 in
+            let out = both_r (both (counted s.0) (tail_in T chosen X s.0)) _ s.2 in
             both_true (no (zone f)) _ (both_l (no (zone f)) _ out)
             (any_true t.steps _ s.0 s.1 (both_more_r (counted s.0) _ _ (λ tail. both_true _ _ tail (both_r (no (zone f)) _ out)) from))
 
-        leads : (X : Set) (f : ℕ) → Is (both (no (zone f)) (any t.steps (λ s. both (counted s) (both (tail_in t chosen X s) (has (row 4 s t.sets) f)))))
-            → Is (any t.steps (λ s. both (both (counted s) (tail_in t chosen X s)) (both (no (zone f)) (has (row 4 s t.sets) f))))
+        leads : (X : Set) (f : ℕ) → Is (both (no (zone f)) (any t.steps (λ s. both (counted s) (both (tail_in T chosen X s) (T.sets s f)))))
+            → Is (any t.steps (λ s. both (both (counted s) (tail_in T chosen X s)) (both (no (zone f)) (T.sets s f))))
         leads X f h =
             let s = any_at t.steps _ (both_r (no (zone f)) _ h) in
             let from = both_r (counted s.0) _ s.2 in
             any_true t.steps _ s.0 s.1
-            (both_true _ _ (both_more_r _ _ _ (both_l _ (has (row 4 s.0 t.sets) f)) s.2)
-            (both_true (no (zone f)) _ (both_l (no (zone f)) _ h) (both_r _ (has (row 4 s.0 t.sets) f) from)))
+            (both_true _ _ (both_more_r _ _ _ (both_l _ (T.sets s.0 f)) s.2)
+            (both_true (no (zone f)) _ (both_l (no (zone f)) _ h) (both_r _ (T.sets s.0 f) from)))
 
   -- the cut is the steps that lead from the region and set a fact of the zone
   pub cut_is : (zone region : Set)
-      → met (up_to (length chosen)) (λ s. both (leads_from t counted chosen region s) (sets_into t zone s)) ≡ cut_from t counted chosen zone region
+      → met (up_to (length chosen)) (λ s. both (leads_from T counted chosen region s) (sets_into T zone s)) ≡ cut_from T counted chosen zone region
   unfolding met up_to cut_from leads_from
   cut_is zone region = rw each (fun_ext (λ s. crossing _ _ _ _))

@@ -77,7 +77,7 @@ taken_off_lem t r X cost costs size same_cut same_cost =
     (λ s l. entry_list (length costs) _ s (omega arith) ∙ rw (same_cut s l, same_cost))
 
 -- the cut through the words of its zone and its region
-pub before_found : (t : Tables) (costs : List ℕ) (counted : Set) (chosen : List ℕ) (goal : ℕ) {zone region cut : List ℕ}
+pub before_found : (t : Task) (costs : List ℕ) (counted : Set) (chosen : List ℕ) (goal : ℕ) {zone region cut : List ℕ}
     → zone ≡ words_of 4 (zone_from t costs counted chosen goal)
     → region ≡ words_of 4 (region_from t counted chosen (has zone))
     → cut ≡ words_of 16 (cut_from t counted chosen (has zone) (has region))
@@ -91,20 +91,20 @@ before_found t costs counted chosen goal z r e = e ∙ rw (r, z)
 pub goals_below : {t : Tables} → Checked t → {goals : List ℕ} → goals ≡ words_of 4 (has (row 4 0 t.goal)) → (f : ℕ) → Is (has goals f) → f < t.facts
 goals_below {t} valid read = rw (goal_read t valid read) valid.goal_facts
 
-module _ {t : Tables} (valid : Checked t) {left table counts : List ℕ} (counted_is : counts ≡ words_of 16 (counted_from t (reach (view t))))
-    (due : RoundDue (view t) left table) {chosen : List ℕ} (chose : chosen ≡ chosen_from t table) where
+module _ {t : Tables} (valid : Checked t) {left table counts : List ℕ} (counted_is : counts ≡ words_of 16 (counted_from (view t) (reach (view t))))
+    (due : RoundDue (view t) left table) {chosen : List ℕ} (chose : chosen ≡ chosen_from (view t) table) where
   abbrev T : Task
   T = view t
 
   chosen_is : chosen ≡ chosen_needs lowest_farthest limits.mark T (entry left)
-  chosen_is = chose ∙ chosen_joined t valid left table due.settled
+  chosen_is = chose ∙ chosen_joined T left table due.settled
 
   module _ {goals : List ℕ} (goal_set : goals ≡ words_of 4 (has (row 4 0 t.goal))) {nearest : ℕ} (near : nearest ≡ lowest_farthest t.facts (has goals) (entry table)) where
     nearest_is : nearest ≡ goal_choice lowest_farthest limits.mark T (entry left)
-    nearest_is = near ∙ ap (λ (X : Set). lowest_farthest t.facts X (entry table)) (goal_read t valid goal_set) ∙ goal_joined t valid left table due.settled
+    nearest_is = near ∙ ap (λ (X : Set). lowest_farthest t.facts X (entry table)) (goal_read t valid goal_set) ∙ goal_joined T left table due.settled
 
     pub nearest_below : nearest < t.facts
-    nearest_below = rw nearest_is (goal_choice_below t valid left due.away)
+    nearest_below = rw nearest_is (goal_choice_below T left due.away)
 
     right : Chosen T (distance T (entry left) limits.mark) (entry chosen) nearest
     right = rw (chosen_is, nearest_is) (choices_right lowest_farthest lowest_is_farthest limits.mark T (entry left))
@@ -112,17 +112,17 @@ module _ {t : Tables} (valid : Checked t) {left table counts : List ℕ} (counte
     counts_is : (s : ℕ) → s < t.steps → has counts s ≡ counted T s
     counts_is s l =
         has_made 16 counts _ counted_is s (omega (arith, valid.few_steps))
-        ∙ counted_joined t valid (reach T) (λ f k. refl) s
+        ∙ counted_joined T valid.few_facts valid.needs_facts (reach T) (λ f k. refl) s
         ∙ both_known (below_true s t.steps l)
 
-    module _ {cut : List ℕ} (cut_is : cut ≡ words_of 16 (cut_before t left (has counts) chosen nearest)) where
+    module _ {cut : List ℕ} (cut_is : cut ≡ words_of 16 (cut_before T left (has counts) chosen nearest)) where
       -- the cut
       pub cut_made : cut ≡ words_of 16 (the_round T left).cut
       unfolding round_of cut_of
       cut_made =
           cut_is
           ∙ words_of_same 16 _ _
-          (λ s l. before_joined t valid left chosen nearest (has counts) counts_is right due.away s ∙ rw (chosen_is, nearest_is))
+          (λ s l. before_joined T valid.few_facts valid.sets_facts left chosen nearest (has counts) counts_is right due.away s ∙ rw (chosen_is, nearest_is))
 
       cut_has : (s : ℕ) → s < t.steps → has cut s ≡ (the_round T left).cut s
       cut_has s l = has_made 16 cut _ cut_made s (omega (arith, valid.few_steps))

@@ -137,7 +137,7 @@ module _ {t : Tables} (valid : Checked t) {rows₀ prices₀ : List ℕ} (due : 
             answer_is = rw (over.0, kept.round_is, kept.floor_is);
           }
 
-      module _ (on : 0 < r) where
+      module _ (on : ¬ (r ≡ 0)) where
         away : 0 < goal_distance T (entry left) limits.mark
         away = omega (arith, goal_tested)
 
@@ -146,12 +146,12 @@ module _ {t : Tables} (valid : Checked t) {rows₀ prices₀ : List ℕ} (due : 
         room_left =
             omega (arith, cutting_room lowest_farthest lowest_is_farthest limits.mark T due.some_way kept.done left kept.cutting away, kept.round_is)
 
-        -- what a round asks for
-        pub round_due : RoundDue T left table
-        round_due = record { as_many = kept.cutting.size; settled = kept.settled; away = away }
-
-        pub round_room : round < length prices
+        round_room : round < length prices
         round_room = omega (arith, room_left, due.prices_room, kept.prices_long)
+
+        -- what a round asks for
+        pub round_asks : (round < length prices) × RoundDue T left table
+        round_asks = (round_room, record { as_many = kept.cutting.size; settled = kept.settled; away = away })
 
         module _ {rows₁ prices₁ left₁ table₁ : List ℕ} {cost : ℕ} (one : RoundDone T round rows prices left rows₁ prices₁ left₁ table₁ cost) where
           abbrev r_next : Round

@@ -5,6 +5,7 @@ ghost use Rattle.sets.specs.Tests.{Is};
 ghost use Rattle.sets.specs.Sets.{Set, up_to, met};
 ghost use Rattle.sets.specs.Words.{has, words_of};
 ghost use Rattle.task.specs.Lent.{lent};
+ghost use Rattle.task.specs.Tables.{view};
 ghost use Rattle.distance.specs.Distance.{entry};
 ghost use Rattle.cuts.specs.Cut.{lowest_farthest};
 ghost use Rattle.cuts.specs.Workers.{chosen_from, counted_from};
@@ -15,7 +16,7 @@ use task::Task;
 // Writes the chosen need of each step, and the number of facts where it has no needs.
 pub(crate) fn choose_needs(task: Task<'_>, table: &[u32], chosen: &mut [u16])
     requires { length chosen.old ≡ task.tables.sizes.steps }
-    ensures { chosen.new ≡ chosen_from (lent task.entry.tables) table.now }
+    ensures { chosen.new ≡ chosen_from (view (lent task.entry.tables)) table.now }
 {
     let n = task.tables.sizes.facts;
     for (step, choice) in chosen.iter_mut().enumerate() {
@@ -47,7 +48,7 @@ pub(crate) fn farthest(n: usize, table: &[u32], set: Facts) -> usize
 
 // The steps all of whose needs are reached.
 pub(crate) fn counted_steps(task: Task<'_>, reached: Facts) -> Steps
-    ensures { result.words ≡ words_of 16 (counted_from (lent task.entry.tables) (has reached.words)) }
+    ensures { result.words ≡ words_of 16 (counted_from (view (lent task.entry.tables)) (has reached.words)) }
 {
     steps_where(task.tables.sizes.steps, |step| {
         task.tables.needs_hold(step, reached)

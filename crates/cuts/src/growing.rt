@@ -8,6 +8,7 @@ ghost use Rattle.sets.specs.Tests.{Is};
 ghost use Rattle.sets.specs.Sets.{Set, up_to, met};
 ghost use Rattle.sets.specs.Words.{has, words_of};
 ghost use Rattle.task.specs.Lent.{lent};
+ghost use Rattle.task.specs.Tables.{view};
 ghost use Rattle.cuts.specs.Workers.{sets_into, zone_from, region_from, cut_from, cut_before, free_into, leads_from, zone_by, region_by, RuledBy, PassedOver, grown_by};
 
 use crate::choosing;
@@ -22,37 +23,38 @@ pub(crate) struct Graph<'a> {
     pub counted: Steps,
     // The chosen need of each step, as a vertex.
     pub chosen: &'a [u16],
-    pub ghost each: { length chosen.now ≡ task.tables.sizes.steps },
+    // The present cost of each step.
+    pub costs: &'a [u32],
+    pub ghost choice_each: { length chosen.now ≡ task.tables.sizes.steps },
+    pub ghost cost_each: { length costs.now ≡ task.tables.sizes.steps },
 }
 
 impl Graph<'_> {
-    // The steps that lead from the region into the zone of the goal's choice, under these costs.
+    // The steps that lead from the region into the zone of the goal's choice.
     #[tactic(auto, using(crate::proofs::OneRound::before_found))]
-    pub(crate) fn cut_before(&self, costs: &[u32], goal: usize) -> Steps
-        requires goal { goal < self.now.task.tables.sizes.facts }
-        requires costs { length costs.now ≡ self.now.task.tables.sizes.steps }
-        ensures { result.words ≡ words_of 16 (cut_before (lent self.now.task.tables) costs.now (has self.now.counted.words) self.now.chosen.now goal) }
+    pub(crate) fn cut_before(&self, choice: usize) -> Steps
+        requires { choice < self.now.task.tables.sizes.facts }
+        ensures { result.words ≡ words_of 16 (cut_before (view (lent self.now.task.tables)) self.now.costs.now (has self.now.counted.words) self.now.chosen.now choice) }
     {
-        let zone = self.zone(costs, goal);
+        let zone = self.zone(choice);
         let region = self.region(zone);
         self.cut(zone, region)
     }
 
     // The facts from which steps that cost nothing lead to the goal's choice.
-    fn zone(&self, costs: &[u32], goal: usize) -> Facts
-        requires goal { goal < self.now.task.tables.sizes.facts }
-        requires costs { length costs.now ≡ self.now.task.tables.sizes.steps }
-        ensures { result.words ≡ words_of 4 (zone_from (lent self.now.task.tables) costs.now (has self.now.counted.words) self.now.chosen.now goal) }
+    fn zone(&self, choice: usize) -> Facts
+        requires { choice < self.now.task.tables.sizes.facts }
+        ensures { result.words ≡ words_of 4 (zone_from (view (lent self.now.task.tables)) self.now.costs.now (has self.now.counted.words) self.now.chosen.now choice) }
     {
-        let last = Facts::empty().with(goal);
+        let last = Facts::empty().with(choice);
         grow(self.chosen.len(), last, |step, zone| {
-            self.tail_into(costs, step, zone)
+            self.tail_into(step, zone)
         })
     }
 
     // The facts that can be reached from the start without entering the zone.
     fn region(&self, zone: Facts) -> Facts
-        ensures { result.words ≡ words_of 4 (region_from (lent self.now.task.tables) (has self.now.counted.words) self.now.chosen.now (has zone.words)) }
+        ensures { result.words ≡ words_of 4 (region_from (view (lent self.now.task.tables)) (has self.now.counted.words) self.now.chosen.now (has zone.words)) }
     {
         let start = self.task.tables.start_facts();
         grow(self.chosen.len(), start, |step, region| {
@@ -62,7 +64,7 @@ impl Graph<'_> {
 
     // The steps that lead from the region, or from "begin", into the zone.
     fn cut(&self, zone: Facts, region: Facts) -> Steps
-        ensures { result.words ≡ words_of 16 (cut_from (lent self.now.task.tables) (has self.now.counted.words) self.now.chosen.now (has zone.words) (has region.words)) }
+        ensures { result.words ≡ words_of 16 (cut_from (view (lent self.now.task.tables)) (has self.now.counted.words) self.now.chosen.now (has zone.words) (has region.words)) }
     {
         choosing::steps_where(self.chosen.len(), |step| {
             self.leads_from(step, region) && self.sets_into(step, zone)
@@ -71,13 +73,12 @@ impl Graph<'_> {
 
     // The step's chosen need, if it is a fact and the step costs nothing and sets a fact of the
     // zone.
-    fn tail_into(&self, costs: &[u32], step: usize, zone: Facts) -> Facts
-        requires step { step < length self.now.chosen.now }
-        requires costs { length costs.now ≡ self.now.task.tables.sizes.steps }
-        ensures { result.words ≡ words_of 4 (met (up_to self.now.task.tables.sizes.facts) (zone_by (lent self.now.task.tables) costs.now (has self.now.counted.words) self.now.chosen.now (has zone.words) step)) }
+    fn tail_into(&self, step: usize, zone: Facts) -> Facts
+        requires { step < length self.now.chosen.now }
+        ensures { result.words ≡ words_of 4 (met (up_to self.now.task.tables.sizes.facts) (zone_by (view (lent self.now.task.tables)) self.now.costs.now (has self.now.counted.words) self.now.chosen.now (has zone.words) step)) }
     {
         let tail = usize::from(self.chosen[step]);
-        if tail < self.task.tables.sizes.facts && self.free_into(costs, step, zone) {
+        if tail < self.task.tables.sizes.facts && self.free_into(step, zone) {
             Facts::empty().with(tail)
         } else {
             Facts::empty()
@@ -87,7 +88,7 @@ impl Graph<'_> {
     // What the step sets outside the zone, if it leads from the region.
     fn heads_outside(&self, zone: Facts, step: usize, region: Facts) -> Facts
         requires { step < length self.now.chosen.now }
-        ensures { result.words ≡ words_of 4 (met (up_to self.now.task.tables.sizes.facts) (region_by (lent self.now.task.tables) (has self.now.counted.words) self.now.chosen.now (has zone.words) (has region.words) step)) }
+        ensures { result.words ≡ words_of 4 (met (up_to self.now.task.tables.sizes.facts) (region_by (view (lent self.now.task.tables)) (has self.now.counted.words) self.now.chosen.now (has zone.words) (has region.words) step)) }
     {
         if self.leads_from(step, region) {
             self.task.tables.sets_of(step).removing(zone)
@@ -98,17 +99,17 @@ impl Graph<'_> {
 
     // Whether a step counts, costs nothing and sets a fact of a set.
     #[tactic(auto, unfolding(crate::specs::Workers::free_into, sets::specs::Tests::both, sets::specs::Tests::same))]
-    fn free_into(&self, costs: &[u32], step: usize, set: Facts) -> bool
-        requires { step < length costs.now }
-        ensures { result ≡ free_into (lent self.now.task.tables) costs.now (has self.now.counted.words) (has set.words) step }
+    fn free_into(&self, step: usize, set: Facts) -> bool
+        requires { step < length self.now.costs.now }
+        ensures { result ≡ free_into (view (lent self.now.task.tables)) self.now.costs.now (has self.now.counted.words) (has set.words) step }
     {
-        self.counted.has(step) && costs[step] == 0 && self.sets_into(step, set)
+        self.counted.has(step) && self.costs[step] == 0 && self.sets_into(step, set)
     }
 
     // Whether a step sets a fact of a set.
     #[tactic(auto, using(crate::proofs::GrownSets::sets_told))]
     fn sets_into(&self, step: usize, set: Facts) -> bool
-        ensures { result ≡ sets_into (lent self.now.task.tables) (has set.words) step }
+        ensures { result ≡ sets_into (view (lent self.now.task.tables)) (has set.words) step }
     {
         self.task.tables.sets_of(step).meeting(set).size() != 0
     }
@@ -117,7 +118,7 @@ impl Graph<'_> {
     #[tactic(auto, unfolding(crate::specs::Workers::leads_from, crate::specs::Workers::tail_in, sets::specs::Tests::both, sets::specs::Tests::either, sets::specs::Tests::no, sets::specs::Tests::below))]
     fn leads_from(&self, step: usize, set: Facts) -> bool
         requires { step < length self.now.chosen.now }
-        ensures { result ≡ leads_from (lent self.now.task.tables) (has self.now.counted.words) self.now.chosen.now (has set.words) step }
+        ensures { result ≡ leads_from (view (lent self.now.task.tables)) (has self.now.counted.words) self.now.chosen.now (has set.words) step }
     {
         let tail = usize::from(self.chosen[step]);
         self.counted.has(step) && (self.task.tables.sizes.facts <= tail || set.has(tail))

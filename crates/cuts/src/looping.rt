@@ -19,7 +19,7 @@ use task::{Fault, Refusal, Tables, Task};
 pub(crate) struct Rounds<'a> {
     task: Task<'a>,
     counted: Steps,
-    ghost counted_is: { counted.words ≡ words_of 16 (counted_from (lent task.tables) (reach (view (lent task.tables)))) },
+    ghost counted_is: { counted.words ≡ words_of 16 (counted_from (view (lent task.tables)) (reach (view (lent task.tables)))) },
 }
 
 impl<'a> Rounds<'a> {
@@ -58,13 +58,11 @@ impl<'a> Rounds<'a> {
     {
         let tables = self.task.tables;
         let mut distances = [0; Task::FACTS];
-        let mut chosen = [0; Task::STEPS];
         let distances = &mut distances[..tables.sizes.facts];
-        let chosen = &mut chosen[..tables.sizes.steps];
         left.copy_from_slice(tables.costs);
         distance::begin_distances(tables.start_facts(), distances);
         distance::settle(tables, left, Steps::empty(), distances);
-        self.make_each(cuts, left, distances, chosen)
+        self.make_each(cuts, left, distances)
     }
 
     // Rounds as long as the goal's distance is above 0.
@@ -73,11 +71,9 @@ impl<'a> Rounds<'a> {
         cuts: &mut CutTables<'_>,
         left: &mut [u32],
         distances: &mut [u32],
-        chosen: &mut [u16],
     ) -> Cutting
         requires costs { left.old ≡ self.now.task.tables.costs.now }
         requires settled { Settled (view (lent self.now.task.tables)) left.old distances.old }
-        requires needs { length chosen.old ≡ self.now.task.tables.sizes.steps }
         requires due { RoundsDue (view (lent self.now.task.tables)) cuts.old.rows.now cuts.old.prices.now }
         ensures places { KeepsPlaces cuts.old cuts.new }
         ensures done { RoundsDone (view (lent self.now.task.tables)) cuts.old.rows.now cuts.old.prices.now cuts.new.rows.now cuts.new.prices.now left.new result }
@@ -87,7 +83,7 @@ impl<'a> Rounds<'a> {
         let mut floor = 0;
         // Stays a while: it ends by the distance, and the rounds counted are part of the answer.
         while distance::set_distance(distances, goal) != 0 {
-            let cost = self.make_one(rounds, cuts, left, distances, chosen);
+            let cost = self.make_one(rounds, cuts, left, distances);
             floor += cost;
             rounds += 1;
         }
@@ -102,23 +98,24 @@ impl<'a> Rounds<'a> {
         cuts: &mut CutTables<'_>,
         left: &mut [u32],
         distances: &mut [u32],
-        chosen: &mut [u16],
     ) -> u32
-        requires needs { length chosen.old ≡ self.now.task.tables.sizes.steps }
         requires room { round < length cuts.old.prices.now }
         requires due { RoundDue (view (lent self.now.task.tables)) left.old distances.old }
         ensures places { KeepsPlaces cuts.old cuts.new }
         ensures done { RoundDone (view (lent self.now.task.tables)) round cuts.old.rows.now cuts.old.prices.now left.old cuts.new.rows.now cuts.new.prices.now left.new distances.new result }
     {
         let tables = self.task.tables;
+        let mut chosen = [0; Task::STEPS];
+        let chosen = &mut chosen[..tables.sizes.steps];
         choosing::choose_needs(self.task, distances, chosen);
-        let goal = choosing::farthest(tables.sizes.facts, distances, tables.goal_facts());
+        let choice = choosing::farthest(tables.sizes.facts, distances, tables.goal_facts());
         let graph = Graph {
             task: self.task,
             counted: self.counted,
             chosen,
+            costs: left,
         };
-        let cut = graph.cut_before(left, goal);
+        let cut = graph.cut_before(choice);
         let cost = costs::cheapest(left, cut);
         cuts.write(round, cut, cost);
         costs::take_off(cut, cost, left);

@@ -4,8 +4,7 @@ ghost use Rattle.sets.specs.Words.{with_row};
 
 use sets::Steps;
 
-// A row of sixteen words for the cut of each round, and the cut's cost. The costs left stay a slice of
-// their own: they are read too, and after a loan for reading the check knows nothing of a field.
+// A row of sixteen words for the cut of each round, and the cut's cost.
 #[derive(Drop)]
 pub(crate) struct CutTables<'a> {
     pub rows: &'a mut [u64],

@@ -1,6 +1,7 @@
 use native.Mathlib.Omega.{arith}
 use Rattle.std.proofs.lemmas.Grind.{common_steps}
 use Rattle.task.specs.Lent.{lent}
+use Rattle.task.specs.Tables.{view}
 use Rattle.cuts.proofs.FarthestFound.{read_below, choice_read, choices_written}
 use Rattle.cuts.proofs.choosing.choose_needs.Goals as goal
 
@@ -13,4 +14,4 @@ loop-step-preserved c =
     grind (arith, common_steps)
 
 pub returns : goal.returns
-returns c = choices_written (lent c.args.task.tables) c.args.table.now c.loop-step.chosen (omega arith) (λ s l. c.loop-step.invariant s (omega arith))
+returns c = choices_written (view (lent c.args.task.tables)) c.args.table.now c.loop-step.chosen (omega arith) (λ s l. c.loop-step.invariant s (omega arith))

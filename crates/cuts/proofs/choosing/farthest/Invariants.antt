@@ -1,4 +1,4 @@
--- What was found is the lowest of the farthest among the members that are not to come.
+-- What was found is the lowest of the farthest among the members visited so far.
 use Rattle.sets.specs.Words.{has}
 use Rattle.distance.specs.Distance.{entry}
 use Rattle.cuts.proofs.FarthestFound.{Looked}

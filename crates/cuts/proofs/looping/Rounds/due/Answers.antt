@@ -1,15 +1,14 @@
 use mathlib.Core.Path.{sym, ◌∙◌}
 use borrow.Author.Rules.{rules}
-use Rattle.task.specs.Lent.{lent}
 use Rattle.cuts.proofs.Begun.{counted_begun}
-use Rattle.cuts.proofs.Due.{reach_read, way_told, verdict_last}
+use Rattle.cuts.proofs.Due.{reach_read, verdict_told}
 use Rattle.cuts.proofs.looping.Rounds.due.Goals as goal
 
 pub returns-in_err-unless-2-clause-refused : goal.returns-in_err-unless-2-clause-refused
 returns-in_err-unless-2-clause-refused c =
     let same = c.in_ok-task.ensures.same in
-    let last = verdict_last (lent c.args.tables) c.args.words c.args.prices c.args.left c.in_ok-task.ensures.fine c.has_room.ensures (sym c.in_ok-unless.ensures)
-    (way_told (rw same at c.in_ok-task.task.valid) c.empty.ensures (rw same at c.reach_without.ensures) c.goal_facts.ensures c.within.ensures) in
+    let last = verdict_told (rw same at c.in_ok-task.task.valid) c.empty.ensures (rw same at c.reach_without.ensures) c.in_ok-task.ensures.fine c.goal_facts.ensures c.within.ensures
+    c.args.words c.args.prices c.args.left c.has_room.ensures (sym c.in_ok-unless.ensures) in
     search rules
 
 pub invariant_of-result : goal.invariant_of-result
@@ -20,6 +19,6 @@ invariant_of-result c = record {
 pub returns-clause-fine : goal.returns-clause-fine
 returns-clause-fine c =
     let same = c.in_ok-task.ensures.same in
-    verdict_last (lent c.args.tables) c.args.words c.args.prices c.args.left c.in_ok-task.ensures.fine c.has_room.ensures (sym c.in_ok-unless.ensures)
-    (way_told (rw same at c.in_ok-task.task.valid) c.empty.ensures (rw same at c.reach_without.ensures) c.goal_facts.ensures c.within.ensures)
+    verdict_told (rw same at c.in_ok-task.task.valid) c.empty.ensures (rw same at c.reach_without.ensures) c.in_ok-task.ensures.fine c.goal_facts.ensures c.within.ensures
+    c.args.words c.args.prices c.args.left c.has_room.ensures (sym c.in_ok-unless.ensures)
     ∙ sym c.in_ok-unless-2.ensures

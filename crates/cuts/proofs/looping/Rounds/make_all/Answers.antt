@@ -6,6 +6,5 @@ pub make_each-requires : goal.make_each-requires
 make_each-requires c = record {
   costs = search rules;
   settled = settled_begun c.args.self.now.task.valid (search rules) c.start_facts.ensures c.empty.ensures (search rules) c.begin_distances.ensures c.settle.ensures;
-  needs = search rules;
   due = c.requires.due;
 }

@@ -1,29 +1,25 @@
 use mathlib.Core.Path.{refl, ◌∙◌}
 use native.Mathlib.Omega.{arith}
-use borrow.Author.Rules.{rules}
-use Rattle.cuts.proofs.RoundsMade.{rounds_start, rounds_end, room_left, round_due, round_room, round_next, floor_room}
+use Rattle.cuts.proofs.RoundsMade.{rounds_start, rounds_end, room_left, round_asks, round_next, floor_room}
 use Rattle.cuts.proofs.looping.Rounds.make_each.Goals as goal
 
 pub loop-goal-init : goal.loop-goal-init
 loop-goal-init c = record {
   places = record { rows = refl; prices = refl };
   kept = rounds_start c.args.self.now.task.valid c.requires.due c.requires.costs c.requires.settled;
-  needs = refl;
 }
 
 pub make_one-cost-requires : goal.make_one-cost-requires
-make_one-cost-requires c = record {
-  needs = c.loop-goal.invariant.needs ∙ c.requires.needs;
-  room = round_room c.args.self.now.task.valid c.requires.due c.loop-goal.invariant.kept c.goal_facts-goal.ensures c.set_distance.ensures (omega (arith, c.loop-goal-test.true));
-  due = round_due c.args.self.now.task.valid c.requires.due c.loop-goal.invariant.kept c.goal_facts-goal.ensures c.set_distance.ensures (omega (arith, c.loop-goal-test.true));
-}
+make_one-cost-requires c =
+    let asks = round_asks c.args.self.now.task.valid c.requires.due c.loop-goal.invariant.kept c.goal_facts-goal.ensures c.set_distance.ensures c.loop-goal-test.true in
+    record { room = asks.0; due = asks.1 }
 
 pub overflow_add-floor : goal.overflow_add-floor
 overflow_add-floor c =
     omega (
       arith,
       floor_room c.args.self.now.task.valid c.requires.due c.loop-goal.invariant.kept c.goal_facts-goal.ensures c.set_distance.ensures
-          (omega (arith, c.loop-goal-test.true)) c.make_one-cost.ensures.done,
+          c.loop-goal-test.true c.make_one-cost.ensures.done,
     )
 
 pub loop-goal-smaller : goal.loop-goal-smaller
@@ -31,7 +27,7 @@ loop-goal-smaller c =
     omega (
       arith,
       room_left c.args.self.now.task.valid c.requires.due c.loop-goal.invariant.kept c.goal_facts-goal.ensures c.set_distance.ensures
-          (omega (arith, c.loop-goal-test.true)),
+          c.loop-goal-test.true,
     )
 
 pub loop-goal-preserved : goal.loop-goal-preserved
@@ -42,8 +38,7 @@ loop-goal-preserved c = record {
   };
   kept =
       round_next c.args.self.now.task.valid c.requires.due c.loop-goal.invariant.kept c.goal_facts-goal.ensures c.set_distance.ensures
-      (omega (arith, c.loop-goal-test.true)) c.make_one-cost.ensures.done;
-  needs = search rules;
+      c.loop-goal-test.true c.make_one-cost.ensures.done;
 }
 
 pub returns-clause-done : goal.returns-clause-done

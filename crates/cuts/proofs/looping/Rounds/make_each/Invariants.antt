@@ -1,7 +1,5 @@
 -- So many rounds have been made, and their tables are as document 01 has them.
 use Prim.Native.Nat.{◌-◌}
-use mathlib.Core.Path.{◌≡◌}
-use lib.ListN.{length}
 use Rattle.task.specs.Lent.{lent}
 use Rattle.task.specs.Tables.{view}
 use Rattle.cuts.specs.Places.{KeepsPlaces}
@@ -12,7 +10,6 @@ abbrev pub invariant-loop-goal : goal.invariant-loop-goal
 invariant-loop-goal l = record {
   places : KeepsPlaces l.initial.cuts l.cuts;
   kept : RoundsKept (view (lent l.self.task.tables)) l.initial.cuts.rows.now l.initial.cuts.prices.now l.cuts.rows.now l.cuts.prices.now l.left l.distances l.rounds l.floor;
-  needs : length l.chosen ≡ length l.initial.chosen;
 }
 
 abbrev pub decreases-loop-goal : goal.decreases-loop-goal
