@@ -1,8 +1,9 @@
 // What the judge goes by: the room for a task, and where it is in the file.
 ghost use Rattle.std.specs.Prelude.{◌≡◌, ◌≤◌};
-ghost use Rattle.taskfile.specs.Judging.{begin, facts_of, steps_of};
+ghost use Rattle.taskfile.specs.Judging.{begin};
 ghost use Rattle.taskfile.specs.Answer.{fits_in};
 
+use sets::Facts;
 use task::Sizes;
 
 /// How many words or costs the lent tables have room for.
@@ -32,13 +33,13 @@ impl Room {
         requires { m ≤ 1024 }
         ensures { result ≡ fits_in self m }
     {
-        let words = 4 * m;
+        let words = Facts::WORDS * m;
         self.needs >= words
             && self.sets >= words
             && self.clears >= words
             && self.costs >= m
-            && self.start >= 4
-            && self.goal >= 4
+            && self.start >= Facts::WORDS
+            && self.goal >= Facts::WORDS
     }
 }
 
@@ -52,19 +53,5 @@ impl Cursor {
             head: None,
             begun: 0,
         }
-    }
-
-    /// How many facts the head says that there are; 0 before it.
-    pub(crate) fn facts(self) -> usize
-        ensures { result ≡ facts_of self }
-    {
-        self.head.map_or(0, |head| head.facts)
-    }
-
-    /// How many steps the head says that there are; 0 before it.
-    pub(crate) fn steps(self) -> usize
-        ensures { result ≡ steps_of self }
-    {
-        self.head.map_or(0, |head| head.steps)
     }
 }

@@ -25,10 +25,10 @@ pub(crate) fn facts_named(records: Records<'_>, part: Part) -> Facts
 {
     let mut facts = Facts::empty();
     for record in records {
-        let Record::Names(own, fact) = record else {
+        let Record::Names(named_part, fact) = record else {
             break;
         };
-        if own == part {
+        if named_part == part {
             facts = facts.with(usize::from(fact));
         }
     }

@@ -7,7 +7,6 @@ ghost use Rattle.taskfile.specs.Workers.{CanCount};
 
 use crate::cursor::{Cursor, Room};
 use crate::format::{Record, record_at};
-use crate::one_record::judge_record;
 use task::{Fault, Refusal, Sizes};
 
 /// Whether a file is sound and its task goes into tables of these sizes: 16 before anything else.
@@ -42,35 +41,37 @@ pub fn judge_next(file: &[u8], room: Room, cursor: Cursor) -> Result<Option<Curs
         return Err(Fault::CutOff.at(file.len()));
     }
     let item = record_at(file, cursor.at)?;
-    judge_record(room, cursor, item)?;
-    go_on(file.len(), cursor, item)
+    cursor.judge(room, item)?;
+    cursor.go_on(item, file.len())
 }
 
-// Where a sound record leads: on, past it, or after an end to the end of the file, where a byte after
-// it is 13 there.
-#[tactic(auto, unfolding(crate::specs::Judging::went_on, crate::specs::Judging::refused_at, task::specs::Refusal::answered, sets::specs::Tests::below))]
-fn go_on(size: usize, cursor: Cursor, item: Record) -> Result<Option<Cursor>, Refusal>
-    requires inside { cursor.at + size_of item ≤ size }
-    requires counted { CanCount cursor item }
-    ensures { result ≡ went_on size cursor item }
-{
-    let at = cursor.at + item.size();
-    match item {
-        Record::End if at < size => Err(Fault::Misplaced.at(at)),
-        Record::End => Ok(None),
-        Record::Head(facts, steps) => Ok(Some(Cursor {
-            at,
-            head: Some(Sizes {
-                facts: usize::from(facts),
-                steps: usize::from(steps),
-            }),
-            begun: 0,
-        })),
-        Record::Step(_) => Ok(Some(Cursor {
-            at,
-            begun: cursor.begun + 1,
-            ..cursor
-        })),
-        Record::Names(_, _) => Ok(Some(Cursor { at, ..cursor })),
+impl Cursor {
+    // Where a sound record leads in a file of that size: on, past it, or after an end to the end of
+    // the file, where a byte after it is 13 there.
+    #[tactic(auto, unfolding(crate::specs::Judging::went_on, crate::specs::Judging::refused_at, task::specs::Refusal::answered, sets::specs::Tests::below))]
+    fn go_on(self, item: Record, size: usize) -> Result<Option<Cursor>, Refusal>
+        requires inside { self.at + size_of item ≤ size }
+        requires counted { CanCount self item }
+        ensures { result ≡ went_on size self item }
+    {
+        let at = self.at + item.size();
+        match item {
+            Record::End if at < size => Err(Fault::Misplaced.at(at)),
+            Record::End => Ok(None),
+            Record::Head(facts, steps) => Ok(Some(Cursor {
+                at,
+                head: Some(Sizes {
+                    facts: usize::from(facts),
+                    steps: usize::from(steps),
+                }),
+                begun: 0,
+            })),
+            Record::Step(_) => Ok(Some(Cursor {
+                at,
+                begun: self.begun + 1,
+                ..self
+            })),
+            Record::Names(_, _) => Ok(Some(Cursor { at, ..self })),
+        }
     }
 }

@@ -6,7 +6,7 @@ use crate::format::Part;
 
 /// What the first byte of a record says that it is.
 #[derive(Clone, Copy, Debug, PartialEq, Eq)]
-pub enum Kind {
+pub(crate) enum Kind {
     End,
     Head,
     Step,
@@ -15,7 +15,7 @@ pub enum Kind {
 
 /// A byte that no kind has.
 #[derive(Clone, Copy, Debug, PartialEq, Eq)]
-pub struct UnknownKind(pub u8);
+pub(crate) struct UnknownKind(pub u8);
 
 impl TryFrom<u8> for Kind {
     type Error = UnknownKind;

@@ -21,7 +21,7 @@ loop-record-preserved-then-eq c = record {
   ends = tt;
   gathered =
       let named = c.in-Some.ensures.steps ∙ ap (λ r. r ∷ records_left c.next.new.self) c.in-Names.is in
-      gather_own c.args.part _ c.in-Names.own c.in-Names.fact c.loop-record.invariant.gathered named
+      gather_own c.args.part _ c.in-Names.named_part c.in-Names.fact c.loop-record.invariant.gathered named
       (same_true the_type tt _ _ (sym c.eq.ensures ∙ c.if-eq.true))
       (c.with-facts.ensures ∙ ap (λ f. words_of 4 (added (has c.loop-record.facts.words) f)) c.from.ensures);
 }
@@ -32,7 +32,7 @@ loop-record-preserved c = record {
   ends = tt;
   gathered =
       let named = c.in-Some.ensures.steps ∙ ap (λ r. r ∷ records_left c.next.new.self) c.in-Names.is in
-      gather_other c.args.part _ c.in-Names.own c.in-Names.fact c.loop-record.invariant.gathered named
+      gather_other c.args.part _ c.in-Names.named_part c.in-Names.fact c.loop-record.invariant.gathered named
       (same_false the_type _ _ (sym c.eq.ensures ∙ c.if-eq.false));
 }
 
