@@ -12,10 +12,9 @@ use Rattle.std.specs.declared.io.traits.Take.{Take}
 use Rattle.std.specs.Io.KnownBytes.{Appends}
 use Rattle.std.specs.Io.Take.{take_limit, take_inner, take_remaining}
 use Rattle.taskfile.proofs.Bytes.{Bytes}
-use Rattle.report.specs.declared.files.TaskFile.{TaskFile}
+use Rattle.arrayvec.specs.ArrayVec.{ArrayVec}
 use Rattle.report.specs.Page.{laid}
 use Rattle.report.specs.Report.{longest_report, report_text}
-use Rattle.report.specs.Files.{read_bytes}
 use Rattle.report.proofs.Lengths.{report_short}
 
 first_bytes : (known : Option (List ℕ)) (before after : List ℕ) → before ≡ [] → IfSome (option_map (take 65536) known) (λ bytes. Appends (Some before) (Some after) bytes)
@@ -24,10 +23,10 @@ first_bytes None before after none read = tt
 first_bytes (Some bytes) before after none read = rw none at read
 
 module _ {R : Type 0} (remaining : R → Option (List ℕ)) where
-  pub file_read : (from : R) (taken : Take R) (empty file : TaskFile) → take_limit taken ≡ 65536 → take_inner taken ≡ from → read_bytes empty ≡ []
-      → IfSome (take_remaining remaining taken) (λ bytes. Appends (Some (read_bytes empty)) (Some (read_bytes file)) bytes)
-      → IfSome (remaining from) (λ bytes. read_bytes file ≡ take 65536 bytes)
-  file_read from taken empty file limit inner none read = first_bytes (remaining from) (read_bytes empty) (read_bytes file) none (rw (limit, inner) at read)
+  pub file_read : (from : R) (taken : Take R) (empty file : ArrayVec ℕ) → take_limit taken ≡ 65536 → take_inner taken ≡ from → empty.items ≡ []
+      → IfSome (take_remaining remaining taken) (λ bytes. Appends (Some empty.items) (Some file.items) bytes)
+      → IfSome (remaining from) (λ bytes. file.items ≡ take 65536 bytes)
+  file_read from taken empty file limit inner none read = first_bytes (remaining from) empty.items file.items none (rw (limit, inner) at read)
 
 pub whole_report : (file before after : List ℕ) (written : ℕ) → Bytes file → length before ≡ longest_report → after ≡ laid (report_text file) before
     → written ≡ min (length (report_text file)) (length before) → take written after ≡ report_text file

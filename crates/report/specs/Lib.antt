@@ -3,4 +3,3 @@ pub mod Page
 pub mod Writing
 pub mod Report
 pub mod Workers
-pub mod Files

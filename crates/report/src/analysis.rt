@@ -46,7 +46,7 @@ pub(crate) fn file_report(file: &[u8], page: &mut Page<'_>) -> Result<(), Refusa
 }
 
 // The tables of a task that stands at the beginning of tables with room for more steps.
-fn first_steps<'a>(room: Tables<'a>) -> Tables<'a>
+fn first_steps(room: Tables<'_>) -> Tables<'_>
     requires needs { 4 * room.sizes.steps ≤ length room.needs.now }
     requires sets { 4 * room.sizes.steps ≤ length room.sets.now }
     requires clears { 4 * room.sizes.steps ≤ length room.clears.now }
@@ -76,8 +76,9 @@ fn task_report(tables: Tables<'_>, page: &mut Page<'_>) -> Result<(), Refusal>
     let passed = must::must_pass(tables)?;
     let taken = must::must_take(tables)?;
     let cutting = cuts::cuts(tables, &mut rows, &mut prices, &mut left)?;
-    page.set_lines(tables.sizes, reached.set, passed, taken);
+    page.task_lines(tables.sizes, reached.set, passed, taken);
     page.cut_lines(&rows, &prices[..cutting.rounds]);
+    // Stays a cast: usize has no From<u32>, and `try_from(..).unwrap()` is no plainer.
     page.line(b"floor", &[cutting.floor as usize]);
     Ok(())
 }

@@ -21,7 +21,7 @@ impl Page<'_> {
     }
 
     /// Writes a line: a word, numbers and the members of a set.
-    pub(crate) fn set_line<const WORDS: usize>(
+    pub(crate) fn members_line<const WORDS: usize>(
         &mut self,
         word: &[u8],
         numbers: &[usize],
@@ -40,7 +40,7 @@ impl Page<'_> {
     }
 
     /// Writes the lines of a task's sizes and of its sets.
-    pub(crate) fn set_lines(&mut self, sizes: Sizes, reached: Facts, passed: Facts, taken: Steps)
+    pub(crate) fn task_lines(&mut self, sizes: Sizes, reached: Facts, passed: Facts, taken: Steps)
         ensures { Writes
             (task_line sizes.facts sizes.steps
             ++ reach_line 256 (has reached.words)
@@ -49,9 +49,9 @@ impl Page<'_> {
             self.old self.new }
     {
         self.line(b"task", &[sizes.facts, sizes.steps]);
-        self.set_line(b"reach", &[], reached);
-        self.set_line(b"must", &[], passed);
-        self.set_line(b"take", &[], taken);
+        self.members_line(b"reach", &[], reached);
+        self.members_line(b"must", &[], passed);
+        self.members_line(b"take", &[], taken);
     }
 
     /// Writes the line of each round: the cut's cost and then its steps.
@@ -59,7 +59,8 @@ impl Page<'_> {
         ensures { Writes (table_cuts (length prices.now) 0 rows.now prices.now) self.old self.new }
     {
         for (round, &price) in prices.iter().enumerate() {
-            self.set_line(b"cut", &[price as usize], Steps::row(rows, round));
+            // Stays a cast: usize has no From<u32>, and `try_from(..).unwrap()` is no plainer.
+            self.members_line(b"cut", &[price as usize], Steps::row(rows, round));
         }
     }
 }

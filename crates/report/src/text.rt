@@ -5,6 +5,8 @@ use itoa::Buffer;
 use sets::{Bits, Few};
 
 /// A lent buffer that is written from its beginning on; what does not fit is left out.
+// Stays a struct of our own: std's Cursor<&mut [u8]> does not promise that the same buffer stays lent,
+// which the promise of `report` needs.
 #[derive(Drop)]
 pub(crate) struct Page<'a> {
     pub(crate) out: &'a mut [u8],

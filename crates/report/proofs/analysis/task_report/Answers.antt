@@ -30,5 +30,5 @@ returns c = record {
   written =
       task_written _ _ _ _ _ (sym c.cuts.ensures.answer ∙ c.in_ok-cutting.was) _ _ c.cuts.ensures.prices _ _ _ _ _ _ _ _ _ c.requires c.cuts.ensures.rows
       (sym c.reach.ensures ∙ c.in_ok-reached.was) (sym c.must_pass.ensures ∙ c.in_ok-passed.was) (sym c.must_take.ensures ∙ c.in_ok-taken.was)
-      c.set_lines.ensures c.cut_lines.ensures c.line.ensures;
+      c.task_lines.ensures c.cut_lines.ensures c.line.ensures;
 }

@@ -1,5 +1,0 @@
-use Rattle.report.proofs.Writing.{writes_on}
-use Rattle.report.proofs.text.Page.set_lines.Goals as goal
-
-pub returns : goal.returns
-returns c = writes_on _ _ _ _ _ (writes_on _ _ _ _ _ (writes_on _ _ _ _ _ c.line.ensures c.set_line.ensures) c.set_line-2.ensures) c.set_line-3.ensures
