@@ -1,10 +1,9 @@
 // Reads a task file from standard input and prints the report on it.
 #![tactic(auto)]
 
-use report::TaskFile;
 use std::io;
 
 fn main(rt: HostRuntime) -> io::Result<()> {
-    let file = TaskFile::read(rt.reader())?;
-    report::print_report(file.bytes(), &mut io::writer(&rt))
+    let file = report::read_file(rt.reader())?;
+    report::print_report(file.as_slice(), &mut io::writer(&rt))
 }
