@@ -2,22 +2,16 @@
 // named on standard error.
 #![tactic(auto)]
 
-use report::TaskFile;
 use std::env::{Env, FillError};
 use std::fs::File;
 use std::{io, str};
 
-// Reads a file's first bytes.
-fn read_file(rt: &HostRuntime, name: &str) -> io::Result<TaskFile> {
-    TaskFile::read(File::open(rt, name)?)
-}
-
 // Prints the name of a file on a line of its own, and the report on it.
 fn print_file(rt: &HostRuntime, name: &str) -> io::Result<()> {
-    match read_file(rt, name) {
+    match File::open(rt, name).and_then(|file| report::read_file(file)) {
         Ok(file) => {
             println!(rt; "{name}")?;
-            report::print_report(file.bytes(), &mut io::writer(rt))
+            report::print_report(file.as_slice(), &mut io::writer(rt))
         }
         Err(error) => eprintln!(rt; "{name}: {error}"),
     }
