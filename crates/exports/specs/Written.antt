@@ -4,7 +4,7 @@ use Rattle.sets.specs.declared.bits.Bits.{Bits}
 use Rattle.task.specs.declared.refusal.Refusal.{Refusal}
 use Rattle.reach.specs.declared.Reached.{Reached}
 
--- of k words
+-- of a set of k words
 abbrev pub set_written : (k : ℕ) → Result (Bits k) Refusal → List ℕ → List ℕ
 set_written k (Ok set) before = set.words
 set_written k (Err r) before = before

@@ -68,7 +68,7 @@ impl<T: Copy> From<Result<T, Refusal>> for Answer {
                 place: 0,
             },
             Err(refusal) => {
-                let number = refusal.fault.number() as u64;
+                let number = u64::from(refusal.fault.number());
                 let place = refusal.place as u64;
                 Answer { number, place }
             }
@@ -96,7 +96,7 @@ impl From<Result<Cutting, Refusal>> for CutsAnswer {
     fn from(cutting: Result<Cutting, Refusal>) -> Self {
         let Answer { number, place } = cutting.into();
         let rounds = cutting.map_or(0, |cutting| cutting.rounds as u64);
-        let floor = cutting.map_or(0, |cutting| cutting.floor as u64);
+        let floor = cutting.map_or(0, |cutting| u64::from(cutting.floor));
         CutsAnswer {
             number,
             place,

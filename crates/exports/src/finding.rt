@@ -9,7 +9,7 @@ ghost use Rattle.exports.specs.Written.{reach_written};
 
 use crate::answers;
 use crate::answers::{Answer, ReachAnswer, ReplayAnswer};
-use crate::lending::lent;
+use crate::lending::tables_of;
 
 /// What is wrong with a task's sizes and tables, if anything. Refusals 1 to 5.
 pub fn salgezhim_check(
@@ -24,7 +24,7 @@ pub fn salgezhim_check(
 ) -> Answer
     ensures { result ≡ answer_of (verdict_of (tables facts steps needs.now sets.now clears.now costs.now start.now goal.now)) }
 {
-    task::check(lent(facts, steps, needs, sets, clears, costs, start, goal)).into()
+    task::check(tables_of(facts, steps, needs, sets, clears, costs, start, goal)).into()
 }
 
 /// The facts within reach, clearing ignored, and the number of passes. Refusals 1 to 5.
@@ -42,7 +42,7 @@ pub fn salgezhim_reach(
     ensures answer { result ≡ reach_answer_of (reached_of (tables facts steps needs.now sets.now clears.now costs.now start.now goal.now)) }
     ensures set { set.new ≡ reach_written (reached_of (tables facts steps needs.now sets.now clears.now costs.now start.now goal.now)) set.old }
 {
-    let reached = reach::reach(lent(facts, steps, needs, sets, clears, costs, start, goal));
+    let reached = reach::reach(tables_of(facts, steps, needs, sets, clears, costs, start, goal));
     answers::write_set(reached.map(|reached| reached.set), set);
     reached.into()
 }
@@ -61,6 +61,6 @@ pub fn salgezhim_replay(
 ) -> ReplayAnswer
     ensures { result ≡ replay_answer_of (replayed_of (tables facts steps needs.now sets.now clears.now costs.now start.now goal.now) walk.now) }
 {
-    let tables = lent(facts, steps, needs, sets, clears, costs, start, goal);
+    let tables = tables_of(facts, steps, needs, sets, clears, costs, start, goal);
     replay::replay(tables, walk).into()
 }

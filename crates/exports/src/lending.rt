@@ -6,7 +6,7 @@ ghost use Rattle.task.specs.Lent.{lent};
 use task::{Sizes, Tables};
 
 // The sizes and tables that a caller lends. Stays eight parameters: the C interface.
-pub(crate) fn lent<'a>(
+pub(crate) fn tables_of<'a>(
     facts: usize,
     steps: usize,
     needs: &'a [u64],

@@ -7,7 +7,7 @@ ghost use Rattle.exports.specs.Written.{passed_written, taken_written};
 
 use crate::answers;
 use crate::answers::Answer;
-use crate::lending::lent;
+use crate::lending::tables_of;
 
 /// The facts that every way to the goal passes. Refusals 1 to 5, and 7 where there is no way.
 #[tactic(auto, unfolding(must::specs::Answer::passed_of, task::specs::Refusal::answered))]
@@ -25,7 +25,7 @@ pub fn salgezhim_must_facts(
     ensures answer { result ≡ answer_of (pass_verdict (tables facts steps needs.now sets.now clears.now costs.now start.now goal.now)) }
     ensures set { set.new ≡ passed_written (passed_of (tables facts steps needs.now sets.now clears.now costs.now start.now goal.now)) set.old }
 {
-    let passed = must::must_pass(lent(facts, steps, needs, sets, clears, costs, start, goal));
+    let passed = must::must_pass(tables_of(facts, steps, needs, sets, clears, costs, start, goal));
     answers::write_set(passed, set);
     passed.into()
 }
@@ -46,7 +46,7 @@ pub fn salgezhim_must_steps(
     ensures answer { result ≡ answer_of (pass_verdict (tables facts steps needs.now sets.now clears.now costs.now start.now goal.now)) }
     ensures set { set.new ≡ taken_written (taken_of (tables facts steps needs.now sets.now clears.now costs.now start.now goal.now)) set.old }
 {
-    let taken = must::must_take(lent(facts, steps, needs, sets, clears, costs, start, goal));
+    let taken = must::must_take(tables_of(facts, steps, needs, sets, clears, costs, start, goal));
     answers::write_set(taken, set);
     taken.into()
 }

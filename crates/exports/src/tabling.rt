@@ -8,7 +8,7 @@ ghost use Rattle.cuts.specs.Answer.{cuts_verdict, cutting_by, cuts_written, pric
 ghost use Rattle.exports.specs.Answers.{answer_of, cuts_answer_of};
 
 use crate::answers::{Answer, CutsAnswer};
-use crate::lending::lent;
+use crate::lending::tables_of;
 
 /// Writes the distance of each fact into the first n numbers lent. Refusals 1 to 6.
 pub fn salgezhim_distances(
@@ -25,7 +25,7 @@ pub fn salgezhim_distances(
     ensures answer { result ≡ answer_of (distances_verdict (tables facts steps needs.now sets.now clears.now costs.now start.now goal.now) (length out.old)) }
     ensures table { out.new ≡ distances_written (tables facts steps needs.now sets.now clears.now costs.now start.now goal.now) out.old }
 {
-    let tables = lent(facts, steps, needs, sets, clears, costs, start, goal);
+    let tables = tables_of(facts, steps, needs, sets, clears, costs, start, goal);
     distance::distances(tables, out).into()
 }
 
@@ -44,7 +44,7 @@ pub fn salgezhim_must_rows(
     ensures answer { result ≡ answer_of (rows_verdict (tables facts steps needs.now sets.now clears.now costs.now start.now goal.now) (length rows.old)) }
     ensures table { rows.new ≡ rows_written (rows_verdict (tables facts steps needs.now sets.now clears.now costs.now start.now goal.now) (length rows.old)) facts (must_row (view (tables facts steps needs.now sets.now clears.now costs.now start.now goal.now))) rows.old }
 {
-    let tables = lent(facts, steps, needs, sets, clears, costs, start, goal);
+    let tables = tables_of(facts, steps, needs, sets, clears, costs, start, goal);
     must::must_rows(tables, rows).into()
 }
 
@@ -64,7 +64,7 @@ pub fn salgezhim_just_before_rows(
     ensures answer { result ≡ answer_of (rows_verdict (tables facts steps needs.now sets.now clears.now costs.now start.now goal.now) (length rows.old)) }
     ensures table { rows.new ≡ rows_written (rows_verdict (tables facts steps needs.now sets.now clears.now costs.now start.now goal.now) (length rows.old)) facts (just_before (view (tables facts steps needs.now sets.now clears.now costs.now start.now goal.now))) rows.old }
 {
-    let tables = lent(facts, steps, needs, sets, clears, costs, start, goal);
+    let tables = tables_of(facts, steps, needs, sets, clears, costs, start, goal);
     must::just_before_rows(tables, rows).into()
 }
 
@@ -88,6 +88,6 @@ pub fn salgezhim_cuts(
     ensures prices { prices.new ≡ prices_written (cuts_verdict (tables facts steps needs.now sets.now clears.now costs.now start.now goal.now) (length rows.old) (length prices.old) (length left.old)) (view (tables facts steps needs.now sets.now clears.now costs.now start.now goal.now)) prices.old }
     ensures left { left.new ≡ left_written (cuts_verdict (tables facts steps needs.now sets.now clears.now costs.now start.now goal.now) (length rows.old) (length prices.old) (length left.old)) (view (tables facts steps needs.now sets.now clears.now costs.now start.now goal.now)) left.old }
 {
-    let tables = lent(facts, steps, needs, sets, clears, costs, start, goal);
+    let tables = tables_of(facts, steps, needs, sets, clears, costs, start, goal);
     cuts::cuts(tables, rows, prices, left).into()
 }
