@@ -9,26 +9,29 @@ pub fn fact(rt: &impl Print, number: usize) -> io::Result<()> {
     print!(rt; "fact {number}: words")?;
     tell(rt, Facts::empty().with(number).words.iter())?;
     print!(rt; ", ")?;
-    one_member::<4>(rt, number, Facts::ROOM)
+    one_member(rt, number, Facts::up_to(Facts::ROOM))
 }
 
 /// A number put into the empty set of steps, and taken out of the full one.
 pub fn step(rt: &impl Print, number: usize) -> io::Result<()> {
     print!(rt; "step {number}: ")?;
-    one_member::<16>(rt, number, Steps::ROOM)
+    one_member(rt, number, Steps::up_to(Steps::ROOM))
 }
 
 // The set of one number and the set of all others, of those that there is room for.
-fn one_member<const WORDS: usize>(rt: &impl Print, number: usize, room: usize) -> io::Result<()>
+fn one_member<const WORDS: usize>(
+    rt: &impl Print,
+    number: usize,
+    all: Bits<WORDS>,
+) -> io::Result<()>
 where
     Bits<WORDS>: Few<WORDS>,
 {
     let one = Bits::<WORDS>::empty().with(number);
-    let others = Bits::<WORDS>::up_to(room).without(number);
-    // A value of the generic type goes into one call alone, so a copy goes into the other.
+    // Stays a second name for the copy: a value of a generic type is lent to one call alone.
     let same = one;
-    let (size, lowest) = (one.size(), same.lowest().unwrap_or(room));
-    let others = others.size();
+    let (size, lowest) = (one.size(), same.lowest().unwrap_or(WORDS * 64));
+    let others = all.without(number).size();
     println!(rt; "size {size}, lowest {lowest}, all but it {others}")
 }
 

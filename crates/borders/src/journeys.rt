@@ -117,8 +117,8 @@ pub fn chain(rt: &impl Print) -> io::Result<()> {
     let mut needs = [0; 1020];
     let mut sets = [0; 1020];
     let mut walk = [0; 255];
-    for (step, entry) in walk.iter_mut().enumerate() {
-        *entry = step as u16;
+    for (step, (entry, number)) in walk.iter_mut().zip(0u16..).enumerate() {
+        *entry = number;
         Facts::empty().with(step).put_row(&mut needs, step);
         Facts::empty().with(step + 1).put_row(&mut sets, step);
     }
