@@ -1,8 +1,8 @@
 // A round's justification graph: its zone, its region and the cut between them.
 //
-// The vertices are the facts and "begin", which has the number after the last fact. The arcs of a
-// step run from its chosen need to every fact that it sets. "begin" is never in the zone and always
-// in the region, so both are sets of facts.
+// The vertices are the facts and "begin", which has the number after the last fact and stays a number,
+// as in specs/Cut.antt (lowest_farthest). The arcs of a step run from its chosen need to every fact that
+// it sets. "begin" is never in the zone and always in the region, so both are sets of facts.
 ghost use Rattle.std.specs.Prelude.{◌≡◌, ℕ, ◌<◌, length};
 ghost use Rattle.sets.specs.Tests.{Is};
 ghost use Rattle.sets.specs.Sets.{Set, up_to, met};
