@@ -44,6 +44,7 @@ pub(crate) fn fill_steps(mut records: Records<'_>, tables: &mut StepTables<'_>)
     ensures clears { tables.new.clears.now ≡ read_into (Ok tt) (step_table Clears (blocks_in (records_left records.entry))) tables.old.clears.now }
     ensures costs { tables.new.costs.now ≡ read_into (Ok tt) (costs_of (blocks_in (records_left records.entry))) tables.old.costs.now }
 {
+    // Stays counted by hand: the body reads on from the same records, which `enumerate` would hold.
     let mut step = 0;
     while let Some(record) = records.next() {
         if let Record::Step(cost) = record {
