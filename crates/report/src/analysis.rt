@@ -18,6 +18,7 @@ pub(crate) fn file_report(file: &[u8], page: &mut Page<'_>) -> Result<(), Refusa
     ensures verdict { result ≡ report_verdict file.now }
     ensures written { WritesUnless result (task_lines (file_tables file.now)) page.old page.new }
 {
+    // Stay arrays: fixed memory, no heap.
     let mut needs = [0; Facts::WORDS * STEPS];
     let mut sets = [0; Facts::WORDS * STEPS];
     let mut clears = [0; Facts::WORDS * STEPS];
