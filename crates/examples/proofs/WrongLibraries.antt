@@ -1,5 +1,5 @@
 -- Five wrong libraries, each shut out by what the definitions give for document 01's first task: the contracts promise that, and it would say something else.
-use Prim.Native.Nat.{ℕ}
+use Prim.Native.Nat.{ℕ, ◌*◌}
 use mathlib.Core.Path.{◌≡◌, refl, sym, ap, ◌∙◌}
 use mathlib.Core.List.{List, [], ◌∷◌, ◌++◌}
 use native.Mathlib.Omega.{arith}
@@ -18,9 +18,9 @@ use Rattle.distance.specs.Distance.{distances}
 use Rattle.distance.specs.Answer.{distances_verdict, written_by}
 use Rattle.must.specs.Answer.{passed_of}
 use Rattle.cuts.specs.declared.Cutting.{Cutting}
-use Rattle.cuts.specs.Answer.{cutting_by, cuts_written}
+use Rattle.cuts.specs.Answer.{cuts_verdict, cutting_by, cuts_written}
 use Rattle.examples.specs.Table.{report}
-use Rattle.examples.specs.Claim.{cuts_judged, Right}
+use Rattle.examples.specs.Claim.{Right}
 use Rattle.examples.proofs.Examples.{examples}
 
 abbrev first : Tables
@@ -38,7 +38,7 @@ not_refused r e = refused_fine (sym e ∙ said.check)
 pub not_empty : (set : Bits 4) × (passed_of first ≡ Ok set) × ¬ (set.words ≡ 0 ∷ 0 ∷ 0 ∷ 0 ∷ [])
 not_empty = (_, said.must, (λ e. let word : ◌≡◌ {A = ℕ} 29 0 = ap (λ (ws : List ℕ). get_or ws 0 0) e in omega arith))
 
-pub floor_told : (c : Cutting) × (cutting_by (cuts_judged report) (view first) ≡ Ok c) × (c.floor ≡ 5)
+pub floor_told : (c : Cutting) × (cutting_by (cuts_verdict first (16 * 5) 5 5) (view first) ≡ Ok c) × (c.floor ≡ 5)
 floor_told = (_, said.cutting, refl)
 
 -- one that writes nothing: a table of distances, whatever it held, begins with the distance of fact 0
@@ -55,7 +55,7 @@ pub something_written : (before : List ℕ) → get_or (written_by (distances_ve
 something_written before = first_written _ 1 _ before said.distances
 
 -- one that makes the first cut and then repeats it
-pub not_repeated : let rows = cuts_written (cuts_judged report) (view first) [] in ¬ (get_or rows 16 0 ≡ get_or rows 0 0)
+pub not_repeated : let rows = cuts_written (cuts_verdict first (16 * 5) 5 5) (view first) [] in ¬ (get_or rows 16 0 ≡ get_or rows 0 0)
 not_repeated e =
     let words : ◌≡◌ {A = ℕ} 8 16 = sym (ap (λ (ws : List ℕ). get_or ws 16 0) said.rows) ∙ e ∙ ap (λ (ws : List ℕ). get_or ws 0 0) said.rows in omega arith
 
@@ -63,5 +63,5 @@ not_repeated e =
 pub passes_told : (reached : Reached) × (reached_of first ≡ Ok reached) × (reached.passes ≡ 4)
 passes_told = (_, said.reach, refl)
 
-pub rounds_told : (c : Cutting) × (cutting_by (cuts_judged report) (view first) ≡ Ok c) × (c.rounds ≡ 4)
+pub rounds_told : (c : Cutting) × (cutting_by (cuts_verdict first (16 * 5) 5 5) (view first) ≡ Ok c) × (c.rounds ≡ 4)
 rounds_told = (_, said.cutting, refl)
