@@ -144,6 +144,7 @@ pub fn row(
     needs: usize,
     sets: usize,
     step: usize,
+    // Stays a number: 2 asks for no row, and is refused.
     which: u8,
 ) -> io::Result<()> {
     let (facts, steps) = (sizes.facts, sizes.steps);
