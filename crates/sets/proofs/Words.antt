@@ -1,5 +1,5 @@
 -- Laws of sets as lists of words, of any length: a word's bits are laws of Bits, and number f stands in word f / 64 as bit f % 64.
-use Prim.Native.Nat.{ℕ, zero, suc, ◌+◌, ◌-◌, ◌*◌, ◌/◌, ◌%◌, ◌^◌, ◌≤◌, ◌<◌}
+use Prim.Native.Nat.{ℕ, zero, suc, ◌+◌, ◌-◌, ◌*◌, ◌/◌, ◌%◌, ◌^◌, ◌≤◌, ◌<◌, min}
 use mathlib.Core.Path.{◌≡◌, refl, sym, ap, ap₂, ◌∙◌, subst, fun_ext}
 use mathlib.Core.Bool.{Bool, false}
 use mathlib.Core.Logic.{inl, inr}
@@ -15,7 +15,8 @@ use lib.Count.{ones}
 use lib.ListN.{length, get_or, take, drop, length-take, length-drop, get_or-eq_default}
 use lib.Seq.{take_all, ext_get_or, get_or-take, get_or-drop}
 use Rattle.std.specs.Prelude.{map}
-use Rattle.std.specs.List.{sum, sum_by}
+use Rattle.std.specs.List.{sum, sum_by, slice_range}
+use Rattle.std.proofs.lemmas.List.{drop_min}
 use Rattle.std.proofs.lemmas.List.Sums.{sum-map, sum_by_more}
 use Rattle.sets.specs.Tests.{Is, both, below}
 use Rattle.sets.specs.Sets.{Set, none, within, count}
@@ -150,6 +151,20 @@ row_whole k i t h = simp (length-take, length-drop) (omega arith)
 pub row_most : (k i : ℕ) (t : List ℕ) → length (row k i t) ≤ k
 unfolding row
 row_most k i t = simp (length-take, length-drop) (omega arith)
+
+-- a whole row, copied from where it starts in the table
+pub row_copied : (k i at : ℕ) (t whole ws : List ℕ) → at ≡ min (i * k) (length t) → whole ≡ slice_range (take (length t - at) (drop at t)) 0 k → ws ≡ whole
+    → length ws ≡ k → ((j : ℕ) → Fits w64 (get_or ws j 0)) → ws ≡ words_of k (has (row k i t))
+unfolding row
+row_copied k i at t whole ws e part same long fit = own_words k ws long fit ∙ ap (λ (r : List ℕ). words_of k (has r)) (same ∙ part ∙ from_at)
+  where
+    first : (xs : List ℕ) → slice_range xs 0 k ≡ take k xs
+    first xs = let same : k - 0 ≡ k = omega arith in ap (λ (n : ℕ). take n xs) same
+
+    from_at : slice_range (take (length t - at) (drop at t)) 0 k ≡ take k (drop (i * k) t)
+    from_at =
+        first (take (length t - at) (drop at t)) ∙ ap (take k) (take_all (length t - at) (drop at t) (omega (arith, length-drop at t)))
+        ∙ ap (λ (n : ℕ). take k (drop n t)) e ∙ ap (take k) (drop_min (i * k) t)
 
 -- a row's words are the table's
 pub row_word : (k i : ℕ) (t : List ℕ) (j : ℕ) → j < k → get_or (row k i t) j 0 ≡ get_or t (i * k + j) 0

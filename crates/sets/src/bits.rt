@@ -178,6 +178,15 @@ impl Steps {
     pub const ROOM: usize = 1024;
 }
 
+// The numbers of words are those of the types.
+const _: Facts = Bits {
+    words: [0; Facts::WORDS],
+};
+
+const _: Steps = Bits {
+    words: [0; Steps::WORDS],
+};
+
 const _: () = prove!(Facts::ROOM == Facts::WORDS * 64);
 
 const _: () = prove!(Steps::ROOM == Steps::WORDS * 64);

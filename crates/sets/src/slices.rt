@@ -16,9 +16,10 @@ fn word(words: &[u64], i: usize) -> u64
 fn row_start(words: usize, number: usize, width: usize) -> usize
     ensures { result ≡ min (number * width) words }
 {
-    match number.checked_mul(width) {
-        Some(start) if start <= words => start,
-        _ => words,
+    match words.checked_div(width) {
+        Some(rows) if number <= rows => number * width,
+        Some(_) => words,
+        _ => 0,
     }
 }
 
@@ -35,6 +36,19 @@ pub(crate) fn fill_up_to(words: &mut [u64], n: usize)
 
 // Makes words the row of that number of a table, in rows of as many words.
 pub(crate) fn copy_row(table: &[u64], number: usize, words: &mut [u64])
+    ensures { words.new ≡ words_of (length words.old) (has (row (length words.old) number table.now)) }
+{
+    let start = row_start(table.len(), number, words.len());
+    if let Some(whole) = table[start..].get(..words.len()) {
+        words.copy_from_slice(whole);
+    } else {
+        copy_part(table, number, words);
+    }
+}
+
+// The same, word by word, as the table's end may cut the row short.
+#[inline(always)]
+fn copy_part(table: &[u64], number: usize, words: &mut [u64])
     ensures { words.new ≡ words_of (length words.old) (has (row (length words.old) number table.now)) }
 {
     let start = row_start(table.len(), number, words.len());
