@@ -61,10 +61,11 @@ fn pass(task: Task<'_>, off: Steps, holding: Facts) -> Facts
 fn add_step(tables: Tables<'_>, step: usize, off: Steps, holding: Facts, next: Facts) -> Facts
     ensures { result.words ≡ words_of 4 (joined (has next.words) (added_by tables.entry.needs.now tables.entry.sets.now (has off.words) (has holding.words) step)) }
 {
-    if off.has(step) {
+    // Needs first: they fail more often, and cost less to look at.
+    if !tables.needs_hold(step, holding) {
         return next;
     }
-    if !tables.needs_hold(step, holding) {
+    if off.has(step) {
         return next;
     }
     next.joining(tables.sets_of(step))
