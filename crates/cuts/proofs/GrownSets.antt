@@ -15,7 +15,7 @@ use Rattle.sets.specs.Sets.{Set, none, up_to, added, joined, met, removed, any, 
 use Rattle.sets.specs.Words.{has, words_of}
 use Rattle.sets.proofs.Tests.{not_is, tell, fails, not_both_ways, equal_tests, both_l, both_r, both_true, both_comm, both_false_l, both_false_r, either_l, either_r, either_cases, no_true, no_false, below_true, below_at, below_false, same_at, same_false, same_not, same_iff, compare}
 use Rattle.sets.proofs.Sets.{any_true, any_at, count_lt, count_same, count_none}
-use Rattle.sets.proofs.Words.{has_made, made_has, words_of_same}
+use Rattle.sets.proofs.Words.{has_made, made_has, words_only, words_of_same}
 use Rattle.task.specs.Task.{Task}
 use Rattle.task.specs.Tables.{Tables, view}
 use Rattle.task.specs.Checked.{Checked}
@@ -58,51 +58,63 @@ sets_told t X s {own} {shared} {size} e d counts =
 -- ---- what one step adds to the zone, and to the region
 
 -- a step that fails its test adds nothing
-adds_nothing : (n : ℕ) (p : Bool) (P : Set) {words : List ℕ} → words ≡ words_of 4 none → p ≡ false → words ≡ words_of 4 (met (up_to n) (λ f. both p (P f)))
-unfolding met none
-adds_nothing n p P e h = e ∙ words_of_same 4 _ _ (λ f l. sym (both_false_r (up_to n f) _ (both_false_l p (P f) h)))
+adds_nothing : (n : ℕ) (p : Bool) (P : Set) {words : List ℕ} → length words ≡ 4 → ((i : ℕ) → Fits w64 (get_or words i 0)) → p ≡ false
+    → words ≡ words_of 4 (joined (has words) (met (up_to n) (λ f. both p (P f))))
+unfolding joined met
+adds_nothing n p P {words} size fits h =
+    words_only 4 words _ size (λ i. (fits i).fits)
+    (λ f l. equal_tests (has words f) _ (either_l (has words f) _)
+    (λ h'. elim (either_cases (has words f) _ h') [ inl x ↦ x | inr y ↦ not_both_ways y (both_false_r (up_to n f) _ (both_false_l p (P f) h)) ]))
 
 -- one that passes it adds what it should, which lies below n
-adds_what : (n : ℕ) (p : Bool) (P Y : Set) {words : List ℕ} → words ≡ words_of 4 Y → Is p → ((f : ℕ) → f < 256 → Y f ≡ P f) → ((f : ℕ) → Is (P f) → f < n)
-    → words ≡ words_of 4 (met (up_to n) (λ f. both p (P f)))
-unfolding met up_to
-adds_what n p P Y e h same_members below_n =
-    e ∙ words_of_same 4 _ _ (λ f l. same_members f l ∙ equal_tests (P f) _
-    (λ x. both_true (below f n) _ (below_true f n (below_n f x)) (both_true p (P f) h x)) (λ x. both_r p (P f) (both_r (below f n) _ x)))
+adds_what : (n : ℕ) (p : Bool) (P Y : Set) (words : List ℕ) {after : List ℕ} → after ≡ words_of 4 (joined (has words) Y) → Is p → ((f : ℕ) → f < 256 → Y f ≡ P f)
+    → ((f : ℕ) → Is (P f) → f < n) → after ≡ words_of 4 (joined (has words) (met (up_to n) (λ f. both p (P f))))
+unfolding joined met up_to
+adds_what n p P Y words e h same_members below_n =
+    e ∙ words_of_same 4 _ _ (λ f l. ap (either (has words f)) (same_members f l ∙ equal_tests (P f) _
+    (λ x. both_true (below f n) _ (below_true f n (below_n f x)) (both_true p (P f) h x)) (λ x. both_r p (P f) (both_r (below f n) _ x))))
 
-module _ (t : Task) (costs : List ℕ) (counted : Set) (chosen : List ℕ) (zone : Set) (s : ℕ) {empty : List ℕ} (nothing : empty ≡ words_of 4 none) where
+module _ (t : Task) (costs : List ℕ) (counted : Set) (chosen : List ℕ) (s : ℕ) (zone : List ℕ) where
   -- the chosen need is "begin"
-  pub tail_begin : {tail : ℕ} → tail ≡ entry chosen s → t.facts ≤ tail → empty ≡ words_of 4 (met (up_to t.facts) (zone_by t costs counted chosen zone s))
-  unfolding met zone_by up_to none
-  tail_begin read l =
-      nothing ∙ words_of_same 4 _ _ (λ f b. sym (fails _ (λ x.
-      let one = same_at f (entry chosen s) (both_r (free_into t costs counted zone s) _ (both_r (below f t.facts) _ x)) in
-      absurd (omega (arith, below_at f t.facts (both_l _ _ x))))))
+  pub tail_begin : length zone ≡ 4 → ((i : ℕ) → Fits w64 (get_or zone i 0)) → {tail : ℕ} → tail ≡ entry chosen s → t.facts ≤ tail
+      → zone ≡ words_of 4 (joined (has zone) (met (up_to t.facts) (zone_by t costs counted chosen (has zone) s)))
+  unfolding joined met zone_by up_to
+  tail_begin size fits read l =
+      words_only 4 zone _ size (λ i. (fits i).fits)
+      (λ f b. equal_tests (has zone f) _ (either_l (has zone f) _)
+      (λ h. elim (either_cases (has zone f) _ h) [
+        | inl x ↦ x
+        | inr x ↦
+            let one = same_at f (entry chosen s) (both_r (free_into t costs counted (has zone) s) _ (both_r (below f t.facts) _ x)) in
+            absurd (omega (arith, below_at f t.facts (both_l _ _ x)))
+      ]))
 
-  module _ {r : Bool} (told : r ≡ free_into t costs counted zone s) where
-    pub tail_none : r ≡ false → empty ≡ words_of 4 (met (up_to t.facts) (zone_by t costs counted chosen zone s))
+  module _ {r : Bool} (told : r ≡ free_into t costs counted (has zone) s) where
+    pub tail_none : length zone ≡ 4 → ((i : ℕ) → Fits w64 (get_or zone i 0)) → r ≡ false
+        → zone ≡ words_of 4 (joined (has zone) (met (up_to t.facts) (zone_by t costs counted chosen (has zone) s)))
     unfolding zone_by
-    tail_none h = adds_nothing t.facts (free_into t costs counted zone s) (λ u. same u (entry chosen s)) nothing (sym told ∙ h)
+    tail_none size fits h = adds_nothing t.facts (free_into t costs counted (has zone) s) (λ u. same u (entry chosen s)) size fits (sym told ∙ h)
 
-    pub tail_one : r ≡ true → {tail : ℕ} → tail ≡ entry chosen s → tail < t.facts → {made : List ℕ} → made ≡ words_of 4 (added (has empty) tail)
-        → made ≡ words_of 4 (met (up_to t.facts) (zone_by t costs counted chosen zone s))
-    unfolding zone_by added none either
+    pub tail_one : r ≡ true → {tail : ℕ} → tail ≡ entry chosen s → tail < t.facts → {made : List ℕ} → made ≡ words_of 4 (added (has zone) tail)
+        → made ≡ words_of 4 (joined (has zone) (met (up_to t.facts) (zone_by t costs counted chosen (has zone) s)))
+    unfolding zone_by added joined
     tail_one h read l made =
-        adds_what t.facts _ (λ u. same u (entry chosen s)) _ (rw read at made) (sym told ∙ h)
-        (λ f b. ap (λ (p : Bool). either p (same f (entry chosen s))) (has_made 4 empty _ nothing f b))
+        adds_what t.facts _ (λ u. same u (entry chosen s)) (λ u. same u (entry chosen s)) zone (rw read at made) (sym told ∙ h) (λ f b. refl)
         (λ f x. omega (arith, same_at f (entry chosen s) x))
 
-module _ (t : Task) (counted : Set) (chosen : List ℕ) (zone region : Set) (s : ℕ) {r : Bool} (told : r ≡ leads_from t counted chosen region s) where
-  pub heads_none : r ≡ false → {empty : List ℕ} → empty ≡ words_of 4 none → empty ≡ words_of 4 (met (up_to t.facts) (region_by t counted chosen zone region s))
+module _ (t : Task) (counted : Set) (chosen : List ℕ) (zone : Set) (s : ℕ) (region : List ℕ) {r : Bool} (told : r ≡ leads_from t counted chosen (has region) s) where
+  pub heads_none : length region ≡ 4 → ((i : ℕ) → Fits w64 (get_or region i 0)) → r ≡ false
+      → region ≡ words_of 4 (joined (has region) (met (up_to t.facts) (region_by t counted chosen zone (has region) s)))
   unfolding region_by
-  heads_none h nothing = adds_nothing t.facts (leads_from t counted chosen region s) (removed (t.sets s) zone) nothing (sym told ∙ h)
+  heads_none size fits h = adds_nothing t.facts (leads_from t counted chosen (has region) s) (removed (t.sets s) zone) size fits (sym told ∙ h)
 
-  pub heads_some : ((f : ℕ) → Is (t.sets s f) → f < t.facts) → r ≡ true → {own made : List ℕ} → own ≡ words_of 4 (t.sets s) → made ≡ words_of 4 (removed (has own) zone)
-      → made ≡ words_of 4 (met (up_to t.facts) (region_by t counted chosen zone region s))
+  pub heads_some : ((f : ℕ) → Is (t.sets s f) → f < t.facts) → r ≡ true → {own outside made : List ℕ} → own ≡ words_of 4 (t.sets s)
+      → outside ≡ words_of 4 (removed (has own) zone) → made ≡ words_of 4 (joined (has region) (has outside))
+      → made ≡ words_of 4 (joined (has region) (met (up_to t.facts) (region_by t counted chosen zone (has region) s)))
   unfolding region_by removed
-  heads_some sets_below h {own} read made =
-      adds_what t.facts _ (removed (t.sets s) zone) _ made (sym told ∙ h) (λ f b. ap (both (no (zone f))) (has_made 4 own _ read f b))
-      (λ f x. sets_below f (both_r (no (zone f)) _ x))
+  heads_some sets_below h {own} {outside} read out made =
+      adds_what t.facts _ (removed (t.sets s) zone) (has outside) region made (sym told ∙ h)
+      (λ f b. has_made 4 outside _ out f b ∙ ap (both (no (zone f))) (has_made 4 own _ read f b)) (λ f x. sets_below f (both_r (no (zone f)) _ x))
 
 -- ---- what a step adds to a set it adds to every larger one
 
@@ -144,10 +156,10 @@ module _ (n : ℕ) (by : Set → ℕ → Set) where
     quiet = λ w s l. absurd (omega arith);
   }
 
-  pub pass_next : n ≤ 256 → RisingBy n by → (s : ℕ) (X : Set) {next more after : List ℕ} → Passed n s by X next
-      → more ≡ words_of 4 (met (up_to n) (by (has next) s)) → after ≡ words_of 4 (joined (has next) (has more)) → Passed n (s + 1) by X after
+  pub pass_next : n ≤ 256 → RisingBy n by → (s : ℕ) (X : Set) {next after : List ℕ} → Passed n s by X next
+      → after ≡ words_of 4 (joined (has next) (met (up_to n) (by (has next) s))) → Passed n (s + 1) by X after
   unfolding joined met up_to
-  pass_next few rising s X {next} {more} {after} p e a = record {
+  pass_next few rising s X {next} {after} p a = record {
     below_n = λ f h. elim (parts f h) [ inl x ↦ p.below_n f x | inr y ↦ below_at f n (both_l (below f n) _ y) ];
     holds = λ f l h. keeps f l (p.holds f l h);
     inside =
@@ -168,25 +180,23 @@ module _ (n : ℕ) (by : Set → ℕ → Set) where
   }
     where
       parts : (f : ℕ) → Is (has after f) → Is (has next f) ⊎ Is (both (below f n) (by (has next) s f))
-      parts f h = elim (either_cases _ _ (made_has 4 after _ a f h)) [ inl x ↦ inl x | inr y ↦ inr (made_has 4 more _ e f y) ]
+      parts f h = either_cases _ _ (made_has 4 after _ a f h)
 
       keeps : Inside n (has next) (has after)
       keeps f l h = has_made 4 after _ a f (omega arith) ∙ either_l _ _ h
 
       adds : Inside n (by (has next) s) (has after)
-      adds f l h =
-          has_made 4 after _ a f (omega arith)
-          ∙ either_r (has next f) _ (has_made 4 more _ e f (omega arith) ∙ both_true (below f n) _ (below_true f n l) h)
+      adds f l h = has_made 4 after _ a f (omega arith) ∙ either_r (has next f) _ (both_true (below f n) _ (below_true f n l) h)
 
 -- ---- passes until one adds nothing
 
 -- what passes end in is the least closed set
-pub grown_set : (m : ℕ) (adds : ℕ → Facts → Facts → Type 0) (gives : Facts → Facts → Type 0)
-    → ((X Y : Facts) → gives X Y → PassedOver m adds X.words Y.words)
+pub grown_set : (m : ℕ) (makes : ℕ → Facts → Facts → Type 0) (gives : Facts → Facts → Type 0)
+    → ((X Y : Facts) → gives X Y → PassedOver m makes X.words Y.words)
     → (seeds : Facts) → length seeds.words ≡ 4 → ((i : ℕ) → Fits w64 (get_or seeds.words i 0)) → {passes : ℕ} {Z : Facts} → Closes gives passes seeds Z
-    → (n : ℕ) (by : Set → ℕ → Set) → RuledBy n m by adds → ((f : ℕ) → Is (has seeds.words f) → f < n) → Z.words ≡ words_of 4 (grown_by n m by (has seeds.words))
+    → (n : ℕ) (by : Set → ℕ → Set) → RuledBy n m by makes → ((f : ℕ) → Is (has seeds.words f) → f < n) → Z.words ≡ words_of 4 (grown_by n m by (has seeds.words))
 unfolding grown_by
-grown_set m adds gives passed seeds size fits closes n by ruled facts_only =
+grown_set m makes gives passed seeds size fits closes n by ruled facts_only =
     closes_least n rule ruled.few rising gives grows seeds (facts_below n seeds size fits facts_only) closes
   where
     rule : Set → Set
@@ -230,14 +240,15 @@ module _ (t : Tables) (valid : Checked t) (counted : Set) (chosen : List ℕ) (e
   abbrev T : Task
   T = view t
 
-  module _ (costs : List ℕ) (adds : ℕ → Facts → Facts → Type 0)
-      (added_is : (s : ℕ) (X Y : Facts) → s < length chosen → adds s X Y → Y.words ≡ words_of 4 (met (up_to t.facts) (zone_by T costs counted chosen (has X.words) s))) where
-    zone_ruled : RuledBy t.facts (length chosen) (zone_by T costs counted chosen) adds
-    zone_ruled = record { few = valid.few_facts; rising = zone_rising T valid.sets_facts costs counted chosen; added = added_is }
+  module _ (costs : List ℕ) (makes : ℕ → Facts → Facts → Type 0)
+      (grown_is : (s : ℕ) (X Y : Facts) → s < length chosen → makes s X Y
+      → Y.words ≡ words_of 4 (joined (has X.words) (met (up_to t.facts) (zone_by T costs counted chosen (has X.words) s)))) where
+    zone_ruled : RuledBy t.facts (length chosen) (zone_by T costs counted chosen) makes
+    zone_ruled = record { few = valid.few_facts; rising = zone_rising T valid.sets_facts costs counted chosen; grown = grown_is }
 
     -- the zone grows from the goal's choice
     pub zone_grown : (goal : ℕ) → goal < t.facts → {empty last zone : List ℕ} → empty ≡ words_of 4 none → last ≡ words_of 4 (added (has empty) goal)
-        → ((n : ℕ) (by : Set → ℕ → Set) → RuledBy n (length chosen) by adds → ((f : ℕ) → Is (has last f) → f < n) → zone ≡ words_of 4 (grown_by n (length chosen) by (has last)))
+        → ((n : ℕ) (by : Set → ℕ → Set) → RuledBy n (length chosen) by makes → ((f : ℕ) → Is (has last f) → f < n) → zone ≡ words_of 4 (grown_by n (length chosen) by (has last)))
         → zone ≡ words_of 4 (zone_from T costs counted chosen goal)
     unfolding zone_from zone_by free_into added none either
     zone_grown goal l {empty} {last} nothing made grown =
@@ -257,14 +268,15 @@ module _ (t : Tables) (valid : Checked t) (counted : Set) (chosen : List ℕ) (e
               | inr x ↦ omega (arith, same_at f goal x)
             ]
 
-  module _ (zone : Set) (adds : ℕ → Facts → Facts → Type 0)
-      (added_is : (s : ℕ) (X Y : Facts) → s < length chosen → adds s X Y → Y.words ≡ words_of 4 (met (up_to t.facts) (region_by T counted chosen zone (has X.words) s))) where
-    region_ruled : RuledBy t.facts (length chosen) (region_by T counted chosen zone) adds
-    region_ruled = record { few = valid.few_facts; rising = region_rising T counted chosen zone; added = added_is }
+  module _ (zone : Set) (makes : ℕ → Facts → Facts → Type 0)
+      (grown_is : (s : ℕ) (X Y : Facts) → s < length chosen → makes s X Y
+      → Y.words ≡ words_of 4 (joined (has X.words) (met (up_to t.facts) (region_by T counted chosen zone (has X.words) s)))) where
+    region_ruled : RuledBy t.facts (length chosen) (region_by T counted chosen zone) makes
+    region_ruled = record { few = valid.few_facts; rising = region_rising T counted chosen zone; grown = grown_is }
 
     -- the region grows from the start
     pub region_grown : (start : List ℕ) {region : List ℕ} → has start ≡ has t.start
-        → ((n : ℕ) (by : Set → ℕ → Set) → RuledBy n (length chosen) by adds → ((f : ℕ) → Is (has start f) → f < n) → region ≡ words_of 4 (grown_by n (length chosen) by (has start)))
+        → ((n : ℕ) (by : Set → ℕ → Set) → RuledBy n (length chosen) by makes → ((f : ℕ) → Is (has start f) → f < n) → region ≡ words_of 4 (grown_by n (length chosen) by (has start)))
         → region ≡ words_of 4 (region_from T counted chosen zone)
     unfolding region_from region_by leads_from removed
     region_grown start first grown =

@@ -2,7 +2,7 @@
 -- A step is counted if it is in a given set; its chosen need is a number of a list, and n or more stands for "begin".
 use Rattle.std.specs.Prelude.{ℕ, ◌-◌, ◌<◌, ◌≤◌, ◌≡◌, Bool, List, length}
 use Rattle.sets.specs.Tests.{Is, no, both, either, below, same, pick}
-use Rattle.sets.specs.Sets.{Set, none, up_to, met, removed, any, within}
+use Rattle.sets.specs.Sets.{Set, none, up_to, joined, met, removed, any, within}
 use Rattle.sets.specs.Words.{has, words_of, row}
 use Rattle.task.specs.Task.{Task}
 use Rattle.reach.specs.Closing.{Facts}
@@ -95,11 +95,11 @@ Inside n X Y = (f : ℕ) → f < n → Is (X f) → Is (Y f)
 abbrev pub RisingBy : ℕ → (Set → ℕ → Set) → Type 0
 RisingBy n by = (X Y : Set) → Inside n X Y → (s f : ℕ) → Is (by X s f) → Is (by Y s f)
 
--- a step below m adds to a set of facts what the rule says, as far as it lies below n; `adds s X Y` says that Y may be what step s adds to X
-pub record RuledBy (n m : ℕ) (by : Set → ℕ → Set) (adds : ℕ → Facts → Facts → Type 0) : Type 0 where
+-- a step below m adds to a set of facts what the rule says, as far as it lies below n; `makes s X Y` says that Y may be what step s makes of X
+pub record RuledBy (n m : ℕ) (by : Set → ℕ → Set) (makes : ℕ → Facts → Facts → Type 0) : Type 0 where
   pub few : n ≤ 256
   pub rising : RisingBy n by
-  pub added : (s : ℕ) (X Y : Facts) → s < m → adds s X Y → Y.words ≡ words_of 4 (met (up_to n) (by (has X.words) s))
+  pub grown : (s : ℕ) (X Y : Facts) → s < m → makes s X Y → Y.words ≡ words_of 4 (joined (has X.words) (met (up_to n) (by (has X.words) s)))
 
 -- no step below m adds to X a number below n
 abbrev pub Closed : ℕ → ℕ → (Set → ℕ → Set) → Set → Type 0
@@ -114,8 +114,8 @@ pub record Passed (n m : ℕ) (by : Set → ℕ → Set) (X : Set) (words : List
   pub quiet : Inside n (has words) X → Closed n m by X
 
 -- whatever the rule of what a step adds, a pass over the steps below m made `words` of X
-pub record PassedOver (m : ℕ) (adds : ℕ → Facts → Facts → Type 0) (X words : List ℕ) : Type 0 where
-  pub by_rule : (n : ℕ) (by : Set → ℕ → Set) → RuledBy n m by adds → ((f : ℕ) → Is (has X f) → f < n) → Passed n m by (has X) words
+pub record PassedOver (m : ℕ) (makes : ℕ → Facts → Facts → Type 0) (X words : List ℕ) : Type 0 where
+  pub by_rule : (n : ℕ) (by : Set → ℕ → Set) → RuledBy n m by makes → ((f : ℕ) → Is (has X f) → f < n) → Passed n m by (has X) words
 
 -- the least set that holds the seeds and all that a step below m adds to it
 unfoldable pub grown_by : ℕ → ℕ → (Set → ℕ → Set) → Set → Set

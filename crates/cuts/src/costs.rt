@@ -23,6 +23,18 @@ pub(crate) fn cheapest(costs: &[u32], cut: Steps) -> u32
     least
 }
 
+// Copies the costs. A loop: std's `copy_from_slice` moves so many numbers by a function of C's that the
+// exported archive would ask for from outside.
+#[tactic(auto, using(crate::proofs::CostsTaken::copied_next, crate::proofs::CostsTaken::copied_all))]
+pub(crate) fn copy(costs: &[u32], left: &mut [u32])
+    requires { length left.old ≡ length costs.now }
+    ensures { left.new ≡ costs.now }
+{
+    for (step, own) in left.iter_mut().enumerate() {
+        *own = costs[step];
+    }
+}
+
 // Takes a cost off each step of a cut.
 #[tactic(auto, using(crate::proofs::CostsTaken::taken_whole), unfolding(sets::specs::Tests::pick))]
 pub(crate) fn take_off(cut: Steps, cost: u32, costs: &mut [u32])

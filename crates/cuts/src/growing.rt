@@ -5,7 +5,7 @@
 // it sets. "begin" is never in the zone and always in the region, so both are sets of facts.
 ghost use Rattle.std.specs.Prelude.{◌≡◌, ℕ, ◌<◌, length};
 ghost use Rattle.sets.specs.Tests.{Is};
-ghost use Rattle.sets.specs.Sets.{Set, up_to, met};
+ghost use Rattle.sets.specs.Sets.{Set, up_to, joined, met};
 ghost use Rattle.sets.specs.Words.{has, words_of};
 ghost use Rattle.task.specs.Lent.{lent};
 ghost use Rattle.task.specs.Tables.{view};
@@ -48,7 +48,7 @@ impl Graph<'_> {
     {
         let last = Facts::empty().with(choice);
         grow(self.chosen.len(), last, |step, zone| {
-            self.tail_into(step, zone)
+            self.with_tail(step, zone)
         })
     }
 
@@ -58,7 +58,7 @@ impl Graph<'_> {
     {
         let start = self.task.tables.start_facts();
         grow(self.chosen.len(), start, |step, region| {
-            self.heads_outside(zone, step, region)
+            self.with_heads(zone, step, region)
         })
     }
 
@@ -71,29 +71,29 @@ impl Graph<'_> {
         })
     }
 
-    // The step's chosen need, if it is a fact and the step costs nothing and sets a fact of the
-    // zone.
-    fn tail_into(&self, step: usize, zone: Facts) -> Facts
+    // The zone with the step's chosen need, if that is a fact and the step costs nothing and sets a
+    // fact of the zone.
+    fn with_tail(&self, step: usize, zone: Facts) -> Facts
         requires { step < length self.now.chosen.now }
-        ensures { result.words ≡ words_of 4 (met (up_to self.now.task.tables.sizes.facts) (zone_by (view (lent self.now.task.tables)) self.now.costs.now (has self.now.counted.words) self.now.chosen.now (has zone.words) step)) }
+        ensures { result.words ≡ words_of 4 (joined (has zone.words) (met (up_to self.now.task.tables.sizes.facts) (zone_by (view (lent self.now.task.tables)) self.now.costs.now (has self.now.counted.words) self.now.chosen.now (has zone.words) step))) }
     {
         let tail = usize::from(self.chosen[step]);
         if tail < self.task.tables.sizes.facts && self.free_into(step, zone) {
-            Facts::empty().with(tail)
+            zone.with(tail)
         } else {
-            Facts::empty()
+            zone
         }
     }
 
-    // What the step sets outside the zone, if it leads from the region.
-    fn heads_outside(&self, zone: Facts, step: usize, region: Facts) -> Facts
+    // The region with what the step sets outside the zone, if it leads from the region.
+    fn with_heads(&self, zone: Facts, step: usize, region: Facts) -> Facts
         requires { step < length self.now.chosen.now }
-        ensures { result.words ≡ words_of 4 (met (up_to self.now.task.tables.sizes.facts) (region_by (view (lent self.now.task.tables)) (has self.now.counted.words) self.now.chosen.now (has zone.words) (has region.words) step)) }
+        ensures { result.words ≡ words_of 4 (joined (has region.words) (met (up_to self.now.task.tables.sizes.facts) (region_by (view (lent self.now.task.tables)) (has self.now.counted.words) self.now.chosen.now (has zone.words) (has region.words) step))) }
     {
         if self.leads_from(step, region) {
-            self.task.tables.sets_of(step).removing(zone)
+            region.joining(self.task.tables.sets_of(step).removing(zone))
         } else {
-            Facts::empty()
+            region
         }
     }
 
@@ -103,7 +103,7 @@ impl Graph<'_> {
         requires { step < length self.now.costs.now }
         ensures { result ≡ free_into (view (lent self.now.task.tables)) self.now.costs.now (has self.now.counted.words) (has set.words) step }
     {
-        self.counted.has(step) && self.costs[step] == 0 && self.sets_into(step, set)
+        self.costs[step] == 0 && self.counted.has(step) && self.sets_into(step, set)
     }
 
     // Whether a step sets a fact of a set.
@@ -126,22 +126,22 @@ impl Graph<'_> {
 }
 
 // The seeds and all that the steps below m add to them, pass after pass until one adds nothing.
-// `added` says what a step adds to a set.
-fn grow<F: Fn(usize, Facts) -> Facts>(m: usize, seeds: Facts, added: F) -> Facts
-    requires { (step : ℕ) (set : _) → step < m → F.pre added step set }
-    ensures { (n : ℕ) (by : Set → ℕ → Set) → RuledBy n m by (F.post added) → ((f : ℕ) → Is (has seeds.words f) → f < n) → result.words ≡ words_of 4 (grown_by n m by (has seeds.words)) }
+// `grown` says what a step makes of a set.
+fn grow<F: Fn(usize, Facts) -> Facts>(m: usize, seeds: Facts, grown: F) -> Facts
+    requires { (step : ℕ) (set : _) → step < m → F.pre grown step set }
+    ensures { (n : ℕ) (by : Set → ℕ → Set) → RuledBy n m by (F.post grown) → ((f : ℕ) → Is (has seeds.words f) → f < n) → result.words ≡ words_of 4 (grown_by n m by (has seeds.words)) }
 {
-    reach::close(seeds, |set| pass(m, set, &added)).set
+    reach::close(seeds, |set| pass(m, set, &grown)).set
 }
 
 // One pass of it.
-fn pass<F: Fn(usize, Facts) -> Facts>(m: usize, set: Facts, added: &F) -> Facts
-    requires { (step : ℕ) (set : _) → step < m → F.pre added.now step set }
-    ensures { PassedOver m (F.post added.now) set.words result.words }
+fn pass<F: Fn(usize, Facts) -> Facts>(m: usize, set: Facts, grown: &F) -> Facts
+    requires { (step : ℕ) (set : _) → step < m → F.pre grown.now step set }
+    ensures { PassedOver m (F.post grown.now) set.words result.words }
 {
     let mut next = set;
     for step in 0..m {
-        next = next.joining(added(step, next));
+        next = grown(step, next);
     }
     next
 }

@@ -59,7 +59,7 @@ impl<'a> Rounds<'a> {
         let tables = self.task.tables;
         let mut distances = [0; Task::FACTS];
         let distances = &mut distances[..tables.sizes.facts];
-        left.copy_from_slice(tables.costs);
+        costs::copy(tables.costs, left);
         distance::begin_distances(tables.start_facts(), distances);
         distance::settle(tables, left, Steps::empty(), distances);
         self.make_each(cuts, left, distances)

@@ -9,7 +9,7 @@ loop-step-init g c = λ n by rule below_n. pass_start n by c.args.set.words belo
 pub loop-step-preserved : goal.loop-step-preserved
 loop-step-preserved g c = λ n by rule below_n.
     pass_next n by rule.few rule.rising c.loop-step.step _ (c.loop-step.invariant n by rule below_n)
-    (rule.added _ _ _ (omega arith) c.added.ensures) c.joining-next.ensures
+    (rule.grown _ _ _ (omega arith) c.grown-next.ensures)
 
 pub returns : goal.returns
 returns g c =

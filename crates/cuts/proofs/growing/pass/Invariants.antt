@@ -8,5 +8,5 @@ use Rattle.cuts.proofs.growing.pass.Given as goal
 
 abbrev pub invariant-loop-step : goal.invariant-loop-step
 invariant-loop-step g l =
-    (n : ℕ) (by : Set → ℕ → Set) → RuledBy n l.m by (goal.F-post g l.added) → ((f : ℕ) → Is (has l.fn.set.words f) → f < n)
+    (n : ℕ) (by : Set → ℕ → Set) → RuledBy n l.m by (goal.F-post g l.grown) → ((f : ℕ) → Is (has l.fn.set.words f) → f < n)
     → Passed n l.step by (has l.fn.set.words) l.next.words
