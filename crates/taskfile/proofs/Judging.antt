@@ -5,7 +5,7 @@ use mathlib.Core.Bool.{Bool}
 use mathlib.Core.Logic.{inl, inr}
 use mathlib.Core.List.{List}
 use native.Mathlib.Omega.{arith}
-use lib.ListN.{length}
+use lib.ListN.{length, get_or}
 use Rattle.std.specs.Prelude.{Option, Some, None, Result, Ok, Err}
 use Rattle.sets.proofs.Tests.{below_true, below_false, pick_true, pick_false, compare}
 use Rattle.task.specs.declared.refusal.Fault.TheVariants.{RecordKind, CutOff, Misplaced, FileLength}
@@ -14,9 +14,10 @@ use Rattle.task.specs.Refusal.{Verdict, refusal, answered}
 use Rattle.taskfile.specs.declared.cursor.Cursor.{Cursor}
 use Rattle.taskfile.specs.declared.format.Record.{Record}
 use Rattle.taskfile.specs.declared.format.Record.TheVariants.{End, Head, Step, Names}
-use Rattle.taskfile.specs.Records.{longest_file, size_of, found_at}
+use Rattle.taskfile.specs.declared.kind.Kind.{Kind}
+use Rattle.taskfile.specs.Records.{longest_file, size_of, kind_of, body_length, found_at}
 use Rattle.taskfile.specs.Judging.{refused_at, begin, record_verdict, went_on, if_fine, found_judged, judged_at, onward, records_verdict, file_verdict}
-use Rattle.taskfile.proofs.Records.{no_ok}
+use Rattle.taskfile.proofs.Records.{no_ok, kind_past, found_unknown, found_broken}
 use Rattle.taskfile.proofs.Bytes.{whole_fits}
 use Rattle.taskfile.proofs.Refusing.{at_refused, or_stay}
 
@@ -37,12 +38,6 @@ module _ (room : ℕ → Bool) (file : List ℕ) (c : Cursor) where
     unfolding found_judged
     judged_none e = sym (judged_found ∙ ap (found_judged room (length file) c) e)
 
-    pub judged_unknown : found ≡ Err (refusal RecordKind c.at) → Err (refusal RecordKind c.at) ≡ judged_at room file c
-    judged_unknown e = judged_none e
-
-    pub judged_broken : found ≡ Err (refusal CutOff c.at) → Err (refusal CutOff c.at) ≡ judged_at room file c
-    judged_broken e = judged_none e
-
     module _ {r : Record} (is : found ≡ Ok r) {v : Verdict} (judged : v ≡ record_verdict room c r) where
       judged_whole : judged_at room file c ≡ if_fine v (went_on (length file) c r)
       unfolding found_judged
@@ -59,6 +54,15 @@ module _ (room : ℕ → Bool) (file : List ℕ) (c : Cursor) where
     -- what going on asks
     pub goes_within : {r : Record} → found ≡ Ok r → c.at + size_of r ≤ length file
     goes_within is = whole_fits file c.at _ (sym told ∙ is)
+
+  -- a byte that no kind has is 11 there
+  pub judged_unknown : c.at < length file → 8 ≤ get_or file c.at 0 → Err (refusal RecordKind c.at) ≡ judged_at room file c
+  judged_unknown inside past = judged_none inside refl (found_unknown file c.at (kind_past (get_or file c.at 0) past))
+
+  -- a record that the file ends inside of is 12 there
+  pub judged_broken : c.at < length file → {kind : Kind} → kind_of (get_or file c.at 0) ≡ Ok kind → length file < suc c.at + body_length kind
+      → Err (refusal CutOff c.at) ≡ judged_at room file c
+  judged_broken inside known short = judged_none inside refl (found_broken file c.at known short)
 
 -- ---- from record to record
 

@@ -53,7 +53,8 @@ kind_of_byte (kinds.Names Needs) = refl
 kind_of_byte (kinds.Names Sets) = refl
 kind_of_byte (kinds.Names Clears) = refl
 
-kind_past : (byte : ℕ) → 8 ≤ byte → kind_of byte ≡ Err (record { 0 = byte })
+-- no kind has a byte of 8 or more
+pub kind_past : (byte : ℕ) → 8 ≤ byte → kind_of byte ≡ Err (record { 0 = byte })
 kind_past byte h =
     let other : (k : ℕ) → k < 8 → nat_eq byte k ≡ false = λ k l. ne_eqb byte k (λ e. omega arith) in
     rw (other 0 (omega arith), other 1 (omega arith), other 2 (omega arith), other 3 (omega arith), other 4 (omega arith), other 5 (omega arith), other 6 (omega arith), other 7 (omega arith))

@@ -1,4 +1,4 @@
--- When a record is refused: 6, 5, 13, 14 and 15, each by its own law.
+-- When a record is refused, each by its own law: 6, 13, 14 and 15.
 use Prim.Native.Nat.{ℕ, ◌<◌, ◌≤◌}
 use mathlib.Core.Path.{◌≡◌, sym, ◌∙◌}
 use mathlib.Core.Bool.{Bool, true, not}
