@@ -58,11 +58,10 @@ module _ (t : Tables) (r : Refusal) where
   take_refused told = answered_err _ _ told
 
   -- with room for 256 rounds, nothing is refused that must-pass does not refuse
-  pub cuts_refused : (words prices left : ℕ) (taken : Bits 16) → t.steps ≤ 256 → 4096 ≤ words → 256 ≤ prices → 256 ≤ left → taken_of t ≡ Ok taken
+  pub cuts_refused : (words prices left : ℕ) → t.steps ≤ 256 → 4096 ≤ words → 256 ≤ prices → 256 ≤ left → pass_verdict t ≡ Ok tt
       → cutting_by (cuts_verdict t words prices left) (view t) ≡ Err r → ⊥
-  unfolding cutting_by cuts_verdict taken_of pass_verdict first_refusal or_else refused_if
-  cuts_refused words prices left taken few a b c told refused =
-      let fine = (answered_ok _ told).0 in
+  unfolding cutting_by cuts_verdict pass_verdict first_refusal or_else refused_if
+  cuts_refused words prices left few a b c fine refused =
       let bad = answered_err _ _ refused in
       refused_fine (sym bad ∙ rw (either_false _ _ (below_false words (16 * t.steps) (omega arith)) (either_false _ _ (below_false prices t.steps (omega arith)) (below_false left t.steps (omega arith)))) fine)
 
@@ -140,17 +139,23 @@ module _ (t : Tables) (words prices left : ℕ) (cutting : Cutting) (cut : cutti
         ap (λ (n : ℕ). table_cuts n 0 rows (take cutting.rounds paid)) (ap length first_paid ∙ costs_long rs)
         ∙ table_read t.steps rs 0 rows (take cutting.rounds paid) _ _ (omega arith) (cuts_below (view t)) (made ∙ ap (λ (v : Verdict). cuts_written v (view t) rows₀) cuts_fine) costs
 
-    -- the sets' lines, the line of each round, and then the floor
-    pub task_written : (rows₀ rows : List ℕ) (reached : Reached) (passed : Bits 4) (taken : Bits 16) (p q r s : Lent) → t.steps ≤ 256
-        → rows ≡ cuts_written (cuts_verdict t words prices left) (view t) rows₀ → reached_of t ≡ Ok reached → passed_of t ≡ Ok passed → taken_of t ≡ Ok taken
-        → Writes (task_line t.facts t.steps ++ reach_line 256 (has reached.set.words) ++ must_line 256 (has passed.words) ++ take_line 1024 (has taken.words)) p q
+    -- the line of each round, and then the floor
+    pub rounds_written : (rows₀ rows : List ℕ) (q r s : Lent) → t.steps ≤ 256 → rows ≡ cuts_written (cuts_verdict t words prices left) (view t) rows₀
         → Writes (table_cuts (length (take cutting.rounds paid)) 0 rows (take cutting.rounds paid)) q r → Writes (floor_line cutting.floor) r s
-        → Writes (set_lines t ++ round_lines t) p s
+        → Writes (round_lines t) q s
     unfolding round_lines
-    task_written rows₀ rows reached passed taken p q r s few made reach_told pass_told take_told first next last =
+    rounds_written rows₀ rows q r s few made next last =
         let rs = (rounds_of (view t)).list in
-        writes_on (set_lines t) (cut_lines t.steps rs ++ floor_line (floor_of rs)) p q s
-        (writes_as _ (set_lines t) p q (lines_made t reached passed taken reach_told pass_told take_told) first)
-        (writes_on (cut_lines t.steps rs) (floor_line (floor_of rs)) q r s
+        writes_on (cut_lines t.steps rs) (floor_line (floor_of rs)) q r s
         (writes_as _ (cut_lines t.steps rs) q r (table_made rows₀ rows few made) next)
-        (writes_as _ (floor_line (floor_of rs)) r s (ap floor_line floor_is) last))
+        (writes_as _ (floor_line (floor_of rs)) r s (ap floor_line floor_is) last)
+
+-- ---- the whole
+
+-- the sets' lines, and then the rounds
+pub task_written : (t : Tables) (reached : Reached) (passed : Bits 4) (taken : Bits 16) (p q s : Lent) → reached_of t ≡ Ok reached → passed_of t ≡ Ok passed
+    → taken_of t ≡ Ok taken
+    → Writes (task_line t.facts t.steps ++ reach_line 256 (has reached.set.words) ++ must_line 256 (has passed.words) ++ take_line 1024 (has taken.words)) p q
+    → Writes (round_lines t) q s → Writes (set_lines t ++ round_lines t) p s
+task_written t reached passed taken p q s reach_told pass_told take_told first next =
+    writes_on (set_lines t) (round_lines t) p q s (writes_as _ (set_lines t) p q (lines_made t reached passed taken reach_told pass_told take_told) first) next

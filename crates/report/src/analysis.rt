@@ -1,11 +1,11 @@
 // The report on a task file: what is found of the task, line after line.
-ghost use Rattle.std.specs.Prelude.{◌≡◌, ◌*◌, ◌≤◌, length};
+ghost use Rattle.std.specs.Prelude.{◌≡◌, ◌*◌, ◌≤◌, length, Ok};
 ghost use Rattle.task.specs.Lent.{lent};
 ghost use Rattle.must.specs.Answer.{pass_verdict};
 ghost use Rattle.taskfile.specs.Meaning.{file_tables};
-ghost use Rattle.report.specs.Report.{steps_room};
+ghost use Rattle.report.specs.Report.{steps_room, round_lines};
 ghost use Rattle.report.specs.Workers.{first_steps, report_verdict, task_lines};
-ghost use Rattle.report.specs.Writing.{WritesUnless};
+ghost use Rattle.report.specs.Writing.{Writes, WritesUnless};
 
 use crate::STEPS;
 use crate::text::Page;
@@ -70,16 +70,28 @@ fn task_report(tables: Tables<'_>, page: &mut Page<'_>) -> Result<(), Refusal>
     ensures verdict { result ≡ pass_verdict (lent tables.entry) }
     ensures written { WritesUnless result (task_lines (lent tables.entry)) page.old page.new }
 {
+    let passed = must::must_pass(tables)?;
+    let reached = reach::reach(tables)?;
+    let taken = must::must_take(tables)?;
+    page.task_lines(tables.sizes, reached.set, passed, taken);
+    rounds_report(tables, page);
+    Ok(())
+}
+
+// Writes the line of each round, and the floor, of a task that is not refused. Beside `task_report`, so
+// that its tables and those of the must-pass steps can lie in the same place.
+fn rounds_report(tables: Tables<'_>, page: &mut Page<'_>)
+    requires steps { tables.sizes.steps ≤ steps_room }
+    requires fine { pass_verdict (lent tables) ≡ Ok tt }
+    ensures { Writes (round_lines (lent tables.entry)) page.old page.new }
+{
     let mut rows = [0; Steps::WORDS * STEPS];
     let mut prices = [0; STEPS];
     let mut left = [0; STEPS];
-    let reached = reach::reach(tables)?;
-    let passed = must::must_pass(tables)?;
-    let taken = must::must_take(tables)?;
-    let cutting = cuts::cuts(tables, &mut rows, &mut prices, &mut left)?;
-    page.task_lines(tables.sizes, reached.set, passed, taken);
+    let Ok(cutting) = cuts::cuts(tables, &mut rows, &mut prices, &mut left) else {
+        unreachable!("with this room, cuts refuse what must-pass refuses");
+    };
     page.cut_lines(&rows, &prices[..cutting.rounds]);
     // Stays a cast: usize has no From<u32>, and `try_from(..).unwrap()` is no plainer.
     page.line(b"floor", &[cutting.floor as usize]);
-    Ok(())
 }

@@ -18,7 +18,7 @@ ghost use Rattle.report.specs.Page.{laid, Counts};
 ghost use Rattle.report.specs.Report.{longest_report, report_text};
 ghost use Rattle.report.specs.Writing.{Writes};
 
-pub use files::read_file;
+pub use files::{read_file, read_into};
 pub use printing::print_report;
 
 /// How many steps there is room for.
