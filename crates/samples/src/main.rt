@@ -2,14 +2,16 @@
 // named on standard error.
 #![tactic(auto)]
 
+use arrayvec::ArrayVec;
 use std::env::{Env, FillError};
 use std::fs::File;
 use std::{io, str};
 
 // Prints the name of a file on a line of its own, and the report on it.
 fn print_file(rt: &HostRuntime, name: &str) -> io::Result<()> {
-    match File::open(rt, name).and_then(|file| report::read_file(file)) {
-        Ok(file) => {
+    let mut file = ArrayVec::new();
+    match File::open(rt, name).and_then(|from| report::read_into(from, &mut file)) {
+        Ok(()) => {
             println!(rt; "{name}")?;
             report::print_report(file.as_slice(), &mut io::writer(rt))
         }
