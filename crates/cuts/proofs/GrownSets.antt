@@ -24,7 +24,7 @@ use Rattle.reach.specs.Least.{quiet, repeated, least}
 use Rattle.reach.proofs.Least.{Rising, held_same}
 use Rattle.reach.proofs.ClosedSets.{FactsBelow, facts_below, Grows, closes_least}
 use Rattle.distance.specs.Distance.{entry}
-use Rattle.cuts.specs.Workers.{sets_into, tail_in, zone_from, region_from, cut_from, free_into, leads_from, zone_by, region_by, Inside, RisingBy, RuledBy, Passed, PassedOver, grown_by}
+use Rattle.cuts.specs.Workers.{sets_into, tail_in, zone_from, region_from, cut_from, free_into, leads_from, zone_by, region_by, Inside, RisingBy, RuledBy, Passed, GrownTo, grown_by}
 
 -- ---- does a step set a fact of a set
 
@@ -190,29 +190,27 @@ module _ (n : ℕ) (by : Set → ℕ → Set) where
 
 -- ---- passes until one adds nothing
 
--- what passes end in is the least closed set
-pub grown_set : (m : ℕ) (makes : ℕ → Facts → Facts → Type 0) (gives : Facts → Facts → Type 0)
-    → ((X Y : Facts) → gives X Y → PassedOver m makes X.words Y.words)
-    → (seeds : Facts) → length seeds.words ≡ 4 → ((i : ℕ) → Fits w64 (get_or seeds.words i 0)) → {passes : ℕ} {Z : Facts} → Closes gives passes seeds Z
-    → (n : ℕ) (by : Set → ℕ → Set) → RuledBy n m by makes → ((f : ℕ) → Is (has seeds.words f) → f < n) → Z.words ≡ words_of 4 (grown_by n m by (has seeds.words))
-unfolding grown_by
-grown_set m makes gives passed seeds size fits closes n by ruled facts_only =
-    closes_least n rule ruled.few rising gives grows seeds (facts_below n seeds size fits facts_only) closes
-  where
-    rule : Set → Set
-    rule X f = any m (λ s. by X s f)
+module _ (n m : ℕ) (by : Set → ℕ → Set) (few : n ≤ 256) (rising_by : RisingBy n by) where
+  -- what passes end in is the least closed set
+  pub grown_set : (seeds : Facts) → length seeds.words ≡ 4 → ((i : ℕ) → Fits w64 (get_or seeds.words i 0)) → {passes : ℕ} {Z : Facts}
+      → Closes (GrownTo n m by) passes seeds Z → ((f : ℕ) → Is (has seeds.words f) → f < n) → Z.words ≡ words_of 4 (grown_by n m by (has seeds.words))
+  unfolding grown_by
+  grown_set seeds size fits closes facts_only = closes_least n rule few rising (GrownTo n m by) grows seeds (facts_below n seeds size fits facts_only) closes
+    where
+      rule : Set → Set
+      rule X f = any m (λ s. by X s f)
 
-    rising : Rising n rule
-    rising X Y w f l h = let s = any_at m _ h in any_true m _ s.0 s.1 (ruled.rising X Y w s.0 f s.2)
+      rising : Rising n rule
+      rising X Y w f l h = let s = any_at m _ h in any_true m _ s.0 s.1 (rising_by X Y w s.0 f s.2)
 
-    grows : (X Y : Facts) → FactsBelow n X → gives X Y → Grows n rule X Y
-    grows X Y b g =
-        let p = (passed X Y g).by_rule n by ruled b.below_n in
-        record {
-          below_n = p.below_n;
-          inside = λ Z closed w. p.inside Z (λ s l f k h. closed f k (any_true m _ s l h)) w;
-          closed = λ w f l h. let s = any_at m _ h in p.quiet w s.0 s.1 f l s.2;
-        }
+      grows : (X Y : Facts) → FactsBelow n X → GrownTo n m by X Y → Grows n rule X Y
+      grows X Y b g =
+          let p = g b.below_n in
+          record {
+            below_n = p.below_n;
+            inside = λ Z closed w. p.inside Z (λ s l f k h. closed f k (any_true m _ s l h)) w;
+            closed = λ w f l h. let s = any_at m _ h in p.quiet w s.0 s.1 f l s.2;
+          }
 
 -- ---- the zone, the region and the cut of a graph
 
@@ -240,49 +238,54 @@ module _ (t : Tables) (valid : Checked t) (counted : Set) (chosen : List ℕ) (e
   abbrev T : Task
   T = view t
 
-  module _ (costs : List ℕ) (makes : ℕ → Facts → Facts → Type 0)
-      (grown_is : (s : ℕ) (X Y : Facts) → s < length chosen → makes s X Y
-      → Y.words ≡ words_of 4 (joined (has X.words) (met (up_to t.facts) (zone_by T costs counted chosen (has X.words) s)))) where
-    zone_ruled : RuledBy t.facts (length chosen) (zone_by T costs counted chosen) makes
-    zone_ruled = record { few = valid.few_facts; rising = zone_rising T valid.sets_facts costs counted chosen; grown = grown_is }
+  module _ (costs : List ℕ) where
+    pub zone_ruled : (makes : ℕ → Facts → Facts → Type 0)
+        → ((s : ℕ) (X Y : Facts) → s < length chosen → makes s X Y
+        → Y.words ≡ words_of 4 (joined (has X.words) (met (up_to t.facts) (zone_by T costs counted chosen (has X.words) s))))
+        → RuledBy t.facts (length chosen) (zone_by T costs counted chosen) makes
+    zone_ruled makes grown_is = record { few = valid.few_facts; rising = zone_rising T valid.sets_facts costs counted chosen; grown = grown_is }
 
     -- the zone grows from the goal's choice
-    pub zone_grown : (goal : ℕ) → goal < t.facts → {empty last zone : List ℕ} → empty ≡ words_of 4 none → last ≡ words_of 4 (added (has empty) goal)
-        → ((n : ℕ) (by : Set → ℕ → Set) → RuledBy n (length chosen) by makes → ((f : ℕ) → Is (has last f) → f < n) → zone ≡ words_of 4 (grown_by n (length chosen) by (has last)))
-        → zone ≡ words_of 4 (zone_from T costs counted chosen goal)
+    pub zone_grown : (goal : ℕ) → goal < t.facts → {empty : List ℕ} (last : Facts) → empty ≡ words_of 4 none → last.words ≡ words_of 4 (added (has empty) goal)
+        → length last.words ≡ 4 → ((i : ℕ) → Fits w64 (get_or last.words i 0)) → {passes : ℕ} {zone : Facts}
+        → Closes (GrownTo t.facts (length chosen) (zone_by T costs counted chosen)) passes last zone
+        → zone.words ≡ words_of 4 (zone_from T costs counted chosen goal)
     unfolding zone_from zone_by free_into added none either
-    zone_grown goal l {empty} {last} nothing made grown =
-        grown t.facts (zone_by T costs counted chosen) zone_ruled last_below
+    zone_grown goal l {empty} last nothing made size fits closes =
+        grown_set t.facts (length chosen) (zone_by T costs counted chosen) valid.few_facts (zone_rising T valid.sets_facts costs counted chosen) last size fits closes
+        last_below
         ∙ ap (words_of 4)
-        (grown_from t.facts (length chosen) (zone_by T costs counted chosen) _ (has last) (λ u. same u goal) (λ f b. last_is f (omega (arith, valid.few_facts)))
+        (grown_from t.facts (length chosen) (zone_by T costs counted chosen) _ (has last.words) (λ u. same u goal) (λ f b. last_is f (omega (arith, valid.few_facts)))
         (λ X u. ap₂ any each (fun_ext (λ s.
         sym (ap (λ (p : Bool). both (counted s) (both (same (entry costs s) 0) (both p (sets_into T X s)))) (same_iff _ _ _ _ sym sym) ∙ regroup _ _ _ _)))))
       where
-        last_is : (f : ℕ) → f < 256 → has last f ≡ same f goal
-        last_is f b = has_made 4 last _ made f b ∙ ap (λ (p : Bool). either p (same f goal)) (has_made 4 empty _ nothing f b)
+        last_is : (f : ℕ) → f < 256 → has last.words f ≡ same f goal
+        last_is f b = has_made 4 last.words _ made f b ∙ ap (λ (p : Bool). either p (same f goal)) (has_made 4 empty _ nothing f b)
 
-        last_below : (f : ℕ) → Is (has last f) → f < t.facts
+        last_below : (f : ℕ) → Is (has last.words f) → f < t.facts
         last_below f h =
-            elim (either_cases (has empty f) _ (made_has 4 last _ made f h)) [
+            elim (either_cases (has empty f) _ (made_has 4 last.words _ made f h)) [
               | inl x ↦ not_is (made_has 4 empty _ nothing f x)
               | inr x ↦ omega (arith, same_at f goal x)
             ]
 
-  module _ (zone : Set) (makes : ℕ → Facts → Facts → Type 0)
-      (grown_is : (s : ℕ) (X Y : Facts) → s < length chosen → makes s X Y
-      → Y.words ≡ words_of 4 (joined (has X.words) (met (up_to t.facts) (region_by T counted chosen zone (has X.words) s)))) where
-    region_ruled : RuledBy t.facts (length chosen) (region_by T counted chosen zone) makes
-    region_ruled = record { few = valid.few_facts; rising = region_rising T counted chosen zone; grown = grown_is }
+  module _ (zone : Set) where
+    pub region_ruled : (makes : ℕ → Facts → Facts → Type 0)
+        → ((s : ℕ) (X Y : Facts) → s < length chosen → makes s X Y
+        → Y.words ≡ words_of 4 (joined (has X.words) (met (up_to t.facts) (region_by T counted chosen zone (has X.words) s))))
+        → RuledBy t.facts (length chosen) (region_by T counted chosen zone) makes
+    region_ruled makes grown_is = record { few = valid.few_facts; rising = region_rising T counted chosen zone; grown = grown_is }
 
     -- the region grows from the start
-    pub region_grown : (start : List ℕ) {region : List ℕ} → has start ≡ has t.start
-        → ((n : ℕ) (by : Set → ℕ → Set) → RuledBy n (length chosen) by makes → ((f : ℕ) → Is (has start f) → f < n) → region ≡ words_of 4 (grown_by n (length chosen) by (has start)))
-        → region ≡ words_of 4 (region_from T counted chosen zone)
+    pub region_grown : (start : Facts) → has start.words ≡ has t.start → length start.words ≡ 4 → ((i : ℕ) → Fits w64 (get_or start.words i 0))
+        → {passes : ℕ} {region : Facts} → Closes (GrownTo t.facts (length chosen) (region_by T counted chosen zone)) passes start region
+        → region.words ≡ words_of 4 (region_from T counted chosen zone)
     unfolding region_from region_by leads_from removed
-    region_grown start first grown =
-        grown t.facts (region_by T counted chosen zone) region_ruled (rw first valid.start_facts)
+    region_grown start first size fits closes =
+        grown_set t.facts (length chosen) (region_by T counted chosen zone) valid.few_facts (region_rising T counted chosen zone) start size fits closes
+        (rw first valid.start_facts)
         ∙ ap (words_of 4)
-        (grown_from t.facts (length chosen) (region_by T counted chosen zone) _ (has start) (has t.start) (λ f l. ap (λ (X : Set). X f) first)
+        (grown_from t.facts (length chosen) (region_by T counted chosen zone) _ (has start.words) (has t.start) (λ f l. ap (λ (X : Set). X f) first)
         (λ X f. ap (λ (m : ℕ). any m (λ s. both (leads_from T counted chosen X s) (removed (T.sets s) zone f))) each ∙ equal_tests _ _ (led X f) (leads X f)))
       where
         led : (X : Set) (f : ℕ) → Is (any t.steps (λ s. both (both (counted s) (tail_in T chosen X s)) (both (no (zone f)) (T.sets s f))))

@@ -117,6 +117,10 @@ pub record Passed (n m : ℕ) (by : Set → ℕ → Set) (X : Set) (words : List
 pub record PassedOver (m : ℕ) (makes : ℕ → Facts → Facts → Type 0) (X words : List ℕ) : Type 0 where
   pub by_rule : (n : ℕ) (by : Set → ℕ → Set) → RuledBy n m by makes → ((f : ℕ) → Is (has X f) → f < n) → Passed n m by (has X) words
 
+-- where X holds numbers below n only, a pass over the steps below m made Y of it
+abbrev pub GrownTo : ℕ → ℕ → (Set → ℕ → Set) → Facts → Facts → Type 0
+GrownTo n m by X Y = ((f : ℕ) → Is (has X.words f) → f < n) → Passed n m by (has X.words) Y.words
+
 -- the least set that holds the seeds and all that a step below m adds to it
 unfoldable pub grown_by : ℕ → ℕ → (Set → ℕ → Set) → Set → Set
 grown_by n m by seeds = (least n (λ X f. any m (λ s. by X s f)) seeds).set

@@ -9,9 +9,10 @@ ghost use Rattle.sets.specs.Sets.{Set, up_to, joined, met};
 ghost use Rattle.sets.specs.Words.{has, words_of};
 ghost use Rattle.task.specs.Lent.{lent};
 ghost use Rattle.task.specs.Tables.{view};
-ghost use Rattle.cuts.specs.Workers.{sets_into, zone_from, region_from, cut_from, cut_before, free_into, leads_from, zone_by, region_by, RuledBy, PassedOver, grown_by};
+ghost use Rattle.cuts.specs.Workers.{sets_into, zone_from, region_from, cut_from, cut_before, free_into, leads_from, zone_by, region_by, PassedOver, GrownTo};
 
 use crate::choosing;
+use reach::Rule;
 use sets::{Facts, Steps};
 use task::Task;
 
@@ -47,9 +48,7 @@ impl Graph<'_> {
         ensures { result.words ≡ words_of 4 (zone_from (view (lent self.now.task.tables)) self.now.costs.now (has self.now.counted.words) self.now.chosen.now choice) }
     {
         let last = Facts::empty().with(choice);
-        grow(self.chosen.len(), last, |step, zone| {
-            self.with_tail(step, zone)
-        })
+        reach::close(last, &ZoneGrowth { graph: self }).set
     }
 
     // The facts that can be reached from the start without entering the zone.
@@ -57,9 +56,7 @@ impl Graph<'_> {
         ensures { result.words ≡ words_of 4 (region_from (view (lent self.now.task.tables)) (has self.now.counted.words) self.now.chosen.now (has zone.words)) }
     {
         let start = self.task.tables.start_facts();
-        grow(self.chosen.len(), start, |step, region| {
-            self.with_heads(zone, step, region)
-        })
+        reach::close(start, &RegionGrowth { graph: self, zone }).set
     }
 
     // The steps that lead from the region, or from "begin", into the zone.
@@ -125,19 +122,45 @@ impl Graph<'_> {
     }
 }
 
-// The seeds and all that the steps below m add to them, pass after pass until one adds nothing.
-// `grown` says what a step makes of a set.
-fn grow<F: Fn(usize, Facts) -> Facts>(m: usize, seeds: Facts, grown: F) -> Facts
-    requires { (step : ℕ) (set : _) → step < m → F.pre grown step set }
-    ensures { (n : ℕ) (by : Set → ℕ → Set) → RuledBy n m by (F.post grown) → ((f : ℕ) → Is (has seeds.words f) → f < n) → result.words ≡ words_of 4 (grown_by n m by (has seeds.words)) }
-{
-    reach::close(seeds, |set| pass(m, set, &grown)).set
+// What a zone gives: itself, and the facts from which a step that costs nothing leads into it.
+#[derive(Clone, Copy)]
+struct ZoneGrowth<'g, 'a> {
+    graph: &'g Graph<'a>,
 }
 
-// One pass of it.
-fn pass<F: Fn(usize, Facts) -> Facts>(m: usize, set: Facts, grown: &F) -> Facts
-    requires { (step : ℕ) (set : _) → step < m → F.pre grown.now step set }
-    ensures { PassedOver m (F.post grown.now) set.words result.words }
+// What a region gives: itself, and the facts outside the zone to which a step leads from it.
+#[derive(Clone, Copy)]
+struct RegionGrowth<'g, 'a> {
+    graph: &'g Graph<'a>,
+    zone: Facts,
+}
+
+impl Rule for ZoneGrowth<'_, '_> {
+    ghost gives = { λ rule X Y. let graph = rule.graph.now in GrownTo graph.task.tables.sizes.facts (length graph.chosen.now) (zone_by (view (lent graph.task.tables)) graph.costs.now (has graph.counted.words) graph.chosen.now) X Y };
+
+    fn given(&self, zone: Facts) -> Facts {
+        let graph = self.graph;
+        pass(graph.chosen.len(), zone, |step, zone| {
+            graph.with_tail(step, zone)
+        })
+    }
+}
+
+impl Rule for RegionGrowth<'_, '_> {
+    ghost gives = { λ rule X Y. let graph = rule.graph.now in GrownTo graph.task.tables.sizes.facts (length graph.chosen.now) (region_by (view (lent graph.task.tables)) (has graph.counted.words) graph.chosen.now (has rule.zone.words)) X Y };
+
+    fn given(&self, region: Facts) -> Facts {
+        let RegionGrowth { graph, zone } = *self;
+        pass(graph.chosen.len(), region, |step, region| {
+            graph.with_heads(zone, step, region)
+        })
+    }
+}
+
+// A pass over the steps below m. `grown` says what a step makes of a set.
+fn pass<F: Fn(usize, Facts) -> Facts>(m: usize, set: Facts, grown: F) -> Facts
+    requires { (step : ℕ) (set : _) → step < m → F.pre grown step set }
+    ensures { PassedOver m (F.post grown) set.words result.words }
 {
     let mut next = set;
     for step in 0..m {

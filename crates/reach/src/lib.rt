@@ -17,7 +17,7 @@ ghost use Rattle.reach.specs.Reach.{made, without};
 ghost use Rattle.reach.specs.Answer.{reached_by, reached_of};
 ghost use Rattle.reach.specs.OneStep.{added_by};
 
-pub use closing::close;
+pub use closing::{Rule, close};
 use sets::{Facts, Steps};
 use task::{Refusal, Tables, Task};
 
@@ -41,9 +41,23 @@ pub fn reach(tables: Tables<'_>) -> Result<Reached, Refusal>
 pub fn reach_without(task: Task<'_>, off: Steps) -> Reached
     ensures { result ≡ reached_by (without (view (lent task.entry.tables)) (has off.words)) }
 {
-    close(task.tables.start_facts(), |holding: Facts| {
+    close(task.tables.start_facts(), &StepsOn { task, off })
+}
+
+// The steps of a task that are on, as a rule: a pass over them.
+#[derive(Clone, Copy)]
+struct StepsOn<'a> {
+    task: Task<'a>,
+    off: Steps,
+}
+
+impl Rule for StepsOn<'_> {
+    ghost gives = { λ rule X Y. Y.words ≡ words_of 4 (joined (has X.words) (made (rows_without (lent rule.task.tables) (has rule.off.words)) (has X.words))) };
+
+    fn given(&self, holding: Facts) -> Facts {
+        let StepsOn { task, off } = *self;
         pass(task, off, holding)
-    })
+    }
 }
 
 // One pass: what is set by all steps whose needs held when it began is added.

@@ -6,11 +6,12 @@ use Rattle.reach.specs.Closing.{Facts, Closes}
 use Rattle.reach.proofs.closing.close.Given as goal
 
 abbrev pub invariant-loop-given : goal.invariant-loop-given
-invariant-loop-given g l = record {
-  can : goal.F-IsAlwaysCallable g l.rule;
-  few : l.passes ≤ count 256 (has l.set.words) + 1;
-  closes : (more : ℕ) (end : Facts) → Closes (goal.F-post g l.rule) (suc more) l.set end → Closes (goal.F-post g l.rule) (more + l.passes) l.fn.seeds end;
-}
+invariant-loop-given g l =
+    let gives = g.R.Rule.gives l.rule in
+    record {
+      few : l.passes ≤ count 256 (has l.set.words) + 1;
+      closes : (more : ℕ) (end : Facts) → Closes gives (suc more) l.set end → Closes gives (more + l.passes) l.fn.seeds end;
+    }
 
 abbrev pub decreases-loop-given : goal.decreases-loop-given
 decreases-loop-given g l = 256 - count 256 (has l.set.words)
