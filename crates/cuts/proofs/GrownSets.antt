@@ -124,7 +124,7 @@ both_more p q r more h = both_true q r (more (both_l p r h)) (both_r p r h)
 both_more_r : (p q r : Bool) → (Is q → Is r) → Is (both p q) → Is (both p r)
 both_more_r p q r more h = both_true p r (both_l p q h) (more (both_r p q h))
 
-zone_rising : (t : Task) → ((s f : ℕ) → Is (t.sets s f) → f < t.facts) → (costs : List ℕ) (counted : Set) (chosen : List ℕ) → RisingBy t.facts (zone_by t costs counted chosen)
+pub zone_rising : (t : Task) → ((s f : ℕ) → Is (t.sets s f) → f < t.facts) → (costs : List ℕ) (counted : Set) (chosen : List ℕ) → RisingBy t.facts (zone_by t costs counted chosen)
 unfolding zone_by free_into sets_into
 zone_rising t sets_below costs counted chosen X Y inside s u =
     both_more _ _ (same u (entry chosen s)) (both_more_r (counted s) _ _ (both_more_r (same (entry costs s) 0) _ _ (λ h.
@@ -132,7 +132,7 @@ zone_rising t sets_below costs counted chosen X Y inside s u =
     let set = both_l (t.sets s fact.0) _ fact.2 in
     any_true 256 _ fact.0 fact.1 (both_more_r _ (X fact.0) (Y fact.0) (inside fact.0 (sets_below s fact.0 set)) fact.2))))
 
-region_rising : (t : Task) (counted : Set) (chosen : List ℕ) (zone : Set) → RisingBy t.facts (region_by t counted chosen zone)
+pub region_rising : (t : Task) (counted : Set) (chosen : List ℕ) (zone : Set) → RisingBy t.facts (region_by t counted chosen zone)
 unfolding region_by leads_from tail_in
 region_rising t counted chosen zone X Y inside s f =
     both_more _ _ (removed (t.sets s) zone f) (both_more_r (counted s) _ _ (λ h.
@@ -190,27 +190,28 @@ module _ (n : ℕ) (by : Set → ℕ → Set) where
 
 -- ---- passes until one adds nothing
 
-module _ (n m : ℕ) (by : Set → ℕ → Set) (few : n ≤ 256) (rising_by : RisingBy n by) where
-  -- what passes end in is the least closed set
-  pub grown_set : (seeds : Facts) → length seeds.words ≡ 4 → ((i : ℕ) → Fits w64 (get_or seeds.words i 0)) → {passes : ℕ} {Z : Facts}
-      → Closes (GrownTo n m by) passes seeds Z → ((f : ℕ) → Is (has seeds.words f) → f < n) → Z.words ≡ words_of 4 (grown_by n m by (has seeds.words))
-  unfolding grown_by
-  grown_set seeds size fits closes facts_only = closes_least n rule few rising (GrownTo n m by) grows seeds (facts_below n seeds size fits facts_only) closes
-    where
-      rule : Set → Set
-      rule X f = any m (λ s. by X s f)
+-- what passes end in is the least closed set
+pub grown_set : (n m : ℕ) (by : Set → ℕ → Set) → n ≤ 256 → RisingBy n by → (gives : Facts → Facts → Type 0) → ((X Y : Facts) → gives X Y → GrownTo n m by X Y)
+    → (seeds : Facts) → length seeds.words ≡ 4 → ((i : ℕ) → Fits w64 (get_or seeds.words i 0)) → {passes : ℕ} {Z : Facts} → Closes gives passes seeds Z
+    → ((f : ℕ) → Is (has seeds.words f) → f < n) → Z.words ≡ words_of 4 (grown_by n m by (has seeds.words))
+unfolding grown_by
+grown_set n m by few rising_by gives grown seeds size fits closes facts_only =
+    closes_least n rule few rising gives grows seeds (facts_below n seeds size fits facts_only) closes
+  where
+    rule : Set → Set
+    rule X f = any m (λ s. by X s f)
 
-      rising : Rising n rule
-      rising X Y w f l h = let s = any_at m _ h in any_true m _ s.0 s.1 (rising_by X Y w s.0 f s.2)
+    rising : Rising n rule
+    rising X Y w f l h = let s = any_at m _ h in any_true m _ s.0 s.1 (rising_by X Y w s.0 f s.2)
 
-      grows : (X Y : Facts) → FactsBelow n X → GrownTo n m by X Y → Grows n rule X Y
-      grows X Y b g =
-          let p = g b.below_n in
-          record {
-            below_n = p.below_n;
-            inside = λ Z closed w. p.inside Z (λ s l f k h. closed f k (any_true m _ s l h)) w;
-            closed = λ w f l h. let s = any_at m _ h in p.quiet w s.0 s.1 f l s.2;
-          }
+    grows : (X Y : Facts) → FactsBelow n X → gives X Y → Grows n rule X Y
+    grows X Y b g =
+        let p = grown X Y g b.below_n in
+        record {
+          below_n = p.below_n;
+          inside = λ Z closed w. p.inside Z (λ s l f k h. closed f k (any_true m _ s l h)) w;
+          closed = λ w f l h. let s = any_at m _ h in p.quiet w s.0 s.1 f l s.2;
+        }
 
 -- ---- the zone, the region and the cut of a graph
 
@@ -246,25 +247,23 @@ module _ (t : Tables) (valid : Checked t) (counted : Set) (chosen : List ℕ) (e
     zone_ruled makes grown_is = record { few = valid.few_facts; rising = zone_rising T valid.sets_facts costs counted chosen; grown = grown_is }
 
     -- the zone grows from the goal's choice
-    pub zone_grown : (goal : ℕ) → goal < t.facts → {empty : List ℕ} (last : Facts) → empty ≡ words_of 4 none → last.words ≡ words_of 4 (added (has empty) goal)
-        → length last.words ≡ 4 → ((i : ℕ) → Fits w64 (get_or last.words i 0)) → {passes : ℕ} {zone : Facts}
-        → Closes (GrownTo t.facts (length chosen) (zone_by T costs counted chosen)) passes last zone
-        → zone.words ≡ words_of 4 (zone_from T costs counted chosen goal)
+    pub zone_grown : (goal : ℕ) → goal < t.facts → {empty last zone : List ℕ} → empty ≡ words_of 4 none → last ≡ words_of 4 (added (has empty) goal)
+        → (((f : ℕ) → Is (has last f) → f < t.facts) → zone ≡ words_of 4 (grown_by t.facts (length chosen) (zone_by T costs counted chosen) (has last)))
+        → zone ≡ words_of 4 (zone_from T costs counted chosen goal)
     unfolding zone_from zone_by free_into added none either
-    zone_grown goal l {empty} last nothing made size fits closes =
-        grown_set t.facts (length chosen) (zone_by T costs counted chosen) valid.few_facts (zone_rising T valid.sets_facts costs counted chosen) last size fits closes
-        last_below
+    zone_grown goal l {empty} {last} nothing made grown =
+        grown last_below
         ∙ ap (words_of 4)
-        (grown_from t.facts (length chosen) (zone_by T costs counted chosen) _ (has last.words) (λ u. same u goal) (λ f b. last_is f (omega (arith, valid.few_facts)))
+        (grown_from t.facts (length chosen) (zone_by T costs counted chosen) _ (has last) (λ u. same u goal) (λ f b. last_is f (omega (arith, valid.few_facts)))
         (λ X u. ap₂ any each (fun_ext (λ s.
         sym (ap (λ (p : Bool). both (counted s) (both (same (entry costs s) 0) (both p (sets_into T X s)))) (same_iff _ _ _ _ sym sym) ∙ regroup _ _ _ _)))))
       where
-        last_is : (f : ℕ) → f < 256 → has last.words f ≡ same f goal
-        last_is f b = has_made 4 last.words _ made f b ∙ ap (λ (p : Bool). either p (same f goal)) (has_made 4 empty _ nothing f b)
+        last_is : (f : ℕ) → f < 256 → has last f ≡ same f goal
+        last_is f b = has_made 4 last _ made f b ∙ ap (λ (p : Bool). either p (same f goal)) (has_made 4 empty _ nothing f b)
 
-        last_below : (f : ℕ) → Is (has last.words f) → f < t.facts
+        last_below : (f : ℕ) → Is (has last f) → f < t.facts
         last_below f h =
-            elim (either_cases (has empty f) _ (made_has 4 last.words _ made f h)) [
+            elim (either_cases (has empty f) _ (made_has 4 last _ made f h)) [
               | inl x ↦ not_is (made_has 4 empty _ nothing f x)
               | inr x ↦ omega (arith, same_at f goal x)
             ]
@@ -277,15 +276,14 @@ module _ (t : Tables) (valid : Checked t) (counted : Set) (chosen : List ℕ) (e
     region_ruled makes grown_is = record { few = valid.few_facts; rising = region_rising T counted chosen zone; grown = grown_is }
 
     -- the region grows from the start
-    pub region_grown : (start : Facts) → has start.words ≡ has t.start → length start.words ≡ 4 → ((i : ℕ) → Fits w64 (get_or start.words i 0))
-        → {passes : ℕ} {region : Facts} → Closes (GrownTo t.facts (length chosen) (region_by T counted chosen zone)) passes start region
-        → region.words ≡ words_of 4 (region_from T counted chosen zone)
+    pub region_grown : (start : List ℕ) {region : List ℕ} → has start ≡ has t.start
+        → (((f : ℕ) → Is (has start f) → f < t.facts) → region ≡ words_of 4 (grown_by t.facts (length chosen) (region_by T counted chosen zone) (has start)))
+        → region ≡ words_of 4 (region_from T counted chosen zone)
     unfolding region_from region_by leads_from removed
-    region_grown start first size fits closes =
-        grown_set t.facts (length chosen) (region_by T counted chosen zone) valid.few_facts (region_rising T counted chosen zone) start size fits closes
-        (rw first valid.start_facts)
+    region_grown start first grown =
+        grown (rw first valid.start_facts)
         ∙ ap (words_of 4)
-        (grown_from t.facts (length chosen) (region_by T counted chosen zone) _ (has start.words) (has t.start) (λ f l. ap (λ (X : Set). X f) first)
+        (grown_from t.facts (length chosen) (region_by T counted chosen zone) _ (has start) (has t.start) (λ f l. ap (λ (X : Set). X f) first)
         (λ X f. ap (λ (m : ℕ). any m (λ s. both (leads_from T counted chosen X s) (removed (T.sets s) zone f))) each ∙ equal_tests _ _ (led X f) (leads X f)))
       where
         led : (X : Set) (f : ℕ) → Is (any t.steps (λ s. both (both (counted s) (tail_in T chosen X s)) (both (no (zone f)) (T.sets s f))))
