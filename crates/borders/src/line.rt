@@ -6,7 +6,7 @@ use std::io;
 use task::Refusal;
 
 /// Writes a blank and each value.
-pub fn tell<I: Iterator + Drop>(rt: &impl Print, values: I) -> io::Result<()>
+pub(crate) fn tell<I: Iterator + Drop>(rt: &impl Print, values: I) -> io::Result<()>
 where
     I::Item: Display + Drop,
     requires can { I.can_next values }
