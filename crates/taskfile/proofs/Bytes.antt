@@ -11,12 +11,11 @@ use lib.Seq.{drop-cons, drop-drop, take-add, get_or-drop}
 use Rattle.std.specs.Prelude.{Result, Ok, Err}
 use Rattle.sets.proofs.Tests.{compare}
 use Rattle.taskfile.specs.declared.format.Part.{Part}
-use Rattle.taskfile.specs.declared.format.Record.{Record}
 use Rattle.taskfile.specs.declared.format.Record.TheVariants.{End, Head, Step, Names}
 use Rattle.taskfile.specs.declared.kind.Kind.{Kind}
 use Rattle.taskfile.specs.declared.kind.Kind.TheVariants as kinds
 use Rattle.taskfile.specs.declared.kind.UnknownKind.{UnknownKind}
-use Rattle.taskfile.specs.Records.{part_byte, little_endian, record_bytes, size_of, number_at, kind_of, body_length, record_of, found_at}
+use Rattle.taskfile.specs.Records.{Record, part_byte, little_endian, record_bytes, size_of, number_at, kind_of, body_length, record_of, found_at}
 use Rattle.taskfile.proofs.Records.{no_ok, size_is, kind_byte, kind_of_byte, byte_is, found_unknown, found_broken, found_whole}
 
 -- each entry is a byte

@@ -14,11 +14,10 @@ use Rattle.task.specs.declared.refusal.Fault.TheVariants.{FactCount, StepCount, 
 use Rattle.task.specs.Check.{wrong_facts, wrong_steps}
 use Rattle.task.proofs.Refusals.{skip_fine, none_left, fine_first, fine_rest}
 use Rattle.taskfile.specs.declared.format.Part.{Part}
-use Rattle.taskfile.specs.declared.format.Record.{Record}
 use Rattle.taskfile.specs.declared.format.Record.TheVariants.{End, Head, Step, Names}
 use Rattle.taskfile.specs.declared.cursor.Cursor.{Cursor}
 use Rattle.taskfile.specs.Sound.{Naming, Block, Contents, naming_records, block_records, records_of, first_fits, part_fits, all_of, block_fits, fits}
-use Rattle.taskfile.specs.Records.{is_first}
+use Rattle.taskfile.specs.Records.{Record, is_first}
 use Rattle.taskfile.specs.Meaning.{first_namings, blocks_in, contents_of}
 use Rattle.taskfile.specs.Judging.{begin, fact_in_place, in_place, numbers_verdict, record_verdict}
 use Rattle.taskfile.proofs.Refusing.{at_fine, fine_at, at_test, test_at, or_fine, or_first, or_second}

@@ -19,10 +19,9 @@ use Rattle.sets.proofs.Rows.{length_table_of, Overwritten, overwrite_next}
 use Rattle.sets.proofs.Writing.{Written, write_next, write_end}
 use Rattle.taskfile.specs.declared.format.Part.{Part}
 use Rattle.taskfile.specs.declared.format.Part.TheVariants.{Needs, Sets, Clears}
-use Rattle.taskfile.specs.declared.format.Record.{Record}
 use Rattle.taskfile.specs.declared.format.Record.TheVariants.{End, Head, Step, Names}
 use Rattle.taskfile.specs.declared.kind.Kind.TheVariants as kinds
-use Rattle.taskfile.specs.Records.{part_byte, kind_of}
+use Rattle.taskfile.specs.Records.{Record, part_byte, kind_of}
 use Rattle.taskfile.specs.Sound.{Naming, Block}
 use Rattle.taskfile.specs.Meaning.{first_namings, blocks_in, some_of, named_for, parts_of, costs_of, step_table}
 use Rattle.taskfile.specs.Answer.{read_into}

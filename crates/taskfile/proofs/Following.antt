@@ -13,10 +13,9 @@ use Rattle.task.specs.declared.refusal.Refusal.{Refusal}
 use Rattle.task.specs.Refusal.{Verdict, answered}
 use Rattle.task.proofs.Refusals.{refused_fine}
 use Rattle.taskfile.specs.declared.format.Part.{Part}
-use Rattle.taskfile.specs.declared.format.Record.{Record}
 use Rattle.taskfile.specs.declared.format.Record.TheVariants.{End, Head, Step, Names}
 use Rattle.taskfile.specs.declared.cursor.Cursor.{Cursor}
-use Rattle.taskfile.specs.Records.{size_of, record_bytes, file_bytes, found_at, after_record, records_on, records_in}
+use Rattle.taskfile.specs.Records.{Record, size_of, record_bytes, file_bytes, found_at, after_record, records_on, records_in}
 use Rattle.taskfile.specs.Judging.{after, record_verdict, went_on, if_fine, found_judged, judged_at, onward, records_verdict}
 use Rattle.taskfile.proofs.Records.{size_is}
 use Rattle.taskfile.proofs.Refusing.{at_fine, fine_at}
@@ -58,10 +57,10 @@ after_record_lem rest (Step cost) h = refl
 after_record_lem rest (Names part f) h = refl
 
 -- which records are an end
-pub no_end_head : {n m : ℕ} → ¬ (Head n m ≡ End)
+pub no_end_head : {n m : ℕ} → ¬ (◌≡◌ {A = Record} (Head n m) End)
 no_end_head e = let z : ◌≡◌ {A = ℕ} 0 1 = cc in omega arith
 
-pub no_end_step : {cost : ℕ} → ¬ (Step cost ≡ End)
+pub no_end_step : {cost : ℕ} → ¬ (◌≡◌ {A = Record} (Step cost) End)
 no_end_step e = let z : ◌≡◌ {A = ℕ} 0 1 = cc in omega arith
 
 pub no_end_fact : {part : Part} {f : ℕ} → ¬ (Names part f ≡ End)

@@ -12,10 +12,9 @@ use Rattle.task.specs.declared.refusal.Fault.TheVariants.{RecordKind, CutOff, Mi
 use Rattle.task.specs.declared.refusal.Refusal.{Refusal}
 use Rattle.task.specs.Refusal.{Verdict, refusal, answered}
 use Rattle.taskfile.specs.declared.cursor.Cursor.{Cursor}
-use Rattle.taskfile.specs.declared.format.Record.{Record}
 use Rattle.taskfile.specs.declared.format.Record.TheVariants.{End, Head, Step, Names}
 use Rattle.taskfile.specs.declared.kind.Kind.{Kind}
-use Rattle.taskfile.specs.Records.{longest_file, size_of, kind_of, body_length, found_at}
+use Rattle.taskfile.specs.Records.{Record, longest_file, size_of, kind_of, body_length, found_at}
 use Rattle.taskfile.specs.Judging.{refused_at, begin, record_verdict, went_on, if_fine, found_judged, judged_at, onward, records_verdict, file_verdict}
 use Rattle.taskfile.proofs.Records.{no_ok, kind_past, found_unknown, found_broken}
 use Rattle.taskfile.proofs.Bytes.{whole_fits}

@@ -13,12 +13,11 @@ use Rattle.task.specs.declared.refusal.Fault.{Fault}
 use Rattle.task.specs.declared.refusal.Fault.TheVariants.{FactCount, StepCount, StepCost, ShortResult, RecordKind, CutOff, Misplaced, RecordFact, StepRecords, FileLength}
 use Rattle.task.specs.declared.refusal.Refusal.{Refusal}
 use Rattle.task.specs.Refusal.{Verdict, refusal, or_else, first_refusal, answered}
-use Rattle.taskfile.specs.declared.format.Record.{Record}
 use Rattle.taskfile.specs.declared.format.Record.TheVariants.{End, Head, Step, Names}
 use Rattle.taskfile.specs.declared.kind.Kind.{Kind}
 use Rattle.taskfile.specs.declared.kind.UnknownKind.{UnknownKind}
 use Rattle.taskfile.specs.declared.cursor.Cursor.{Cursor}
-use Rattle.taskfile.specs.Records.{longest_file, kind_of, body_length, found_as, found_at}
+use Rattle.taskfile.specs.Records.{Record, longest_file, kind_of, body_length, found_as, found_at}
 use Rattle.taskfile.specs.Judging.{refused_at, begin, numbers_verdict, record_verdict, went_on, if_fine, found_judged, judged_at, onward, records_verdict, file_verdict}
 
 -- a refusal's fault has the property, and its place is at most this

@@ -16,10 +16,9 @@ use Rattle.task.specs.declared.refusal.Refusal.{Refusal}
 use Rattle.task.specs.Refusal.{Verdict, answered}
 use Rattle.taskfile.specs.declared.cursor.Room.{Room}
 use Rattle.taskfile.specs.declared.format.Part.TheVariants.{Start, Goal, Needs, Sets, Clears}
-use Rattle.taskfile.specs.declared.format.Record.{Record}
 use Rattle.taskfile.specs.declared.format.Record.TheVariants.{Head}
 use Rattle.taskfile.specs.declared.iter.Records.{Records}
-use Rattle.taskfile.specs.Records.{file_records}
+use Rattle.taskfile.specs.Records.{Record, file_records}
 use Rattle.taskfile.specs.Sound.{Contents, Sound}
 use Rattle.taskfile.specs.Meaning.{first_namings, blocks_in, contents_of, contents_in, named_for, costs_of, step_table, contents_tables, file_tables}
 use Rattle.taskfile.specs.Judging.{file_verdict}
@@ -108,7 +107,7 @@ module _ (file : List ℕ) (room : Room) {v : Verdict} (judged : v ≡ file_verd
       steps_are =
           let c = contents_in file in
           let both = sym (sound_records accepted.0 ∙ records_as c) ∙ first in
-          let is : Head c.facts (length c.blocks) ≡ Head n m = cc in cc
+          let is : ◌≡◌ {A = Record} (Head c.facts (length c.blocks)) (Head n m) = cc in cc
 
       fit : Fitting room (length (blocks_in rest))
       fit = fitting room _ (ap (λ (c : Contents). fits_in room (length c.blocks)) (sym contents_are) ∙ accepted.1)

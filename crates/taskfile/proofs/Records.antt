@@ -15,13 +15,12 @@ use Rattle.sets.proofs.Tests.{below_true, below_false, pick_true, pick_false, co
 use Rattle.task.specs.Refusal.{refusal}
 use Rattle.task.specs.declared.refusal.Fault.TheVariants.{RecordKind, CutOff}
 use Rattle.task.specs.declared.refusal.Refusal.{Refusal}
-use Rattle.taskfile.specs.declared.format.Record.{Record}
 use Rattle.taskfile.specs.declared.format.Record.TheVariants.{End, Head, Step, Names}
 use Rattle.taskfile.specs.declared.format.Part.TheVariants.{Start, Goal, Needs, Sets, Clears}
 use Rattle.taskfile.specs.declared.kind.Kind.{Kind}
 use Rattle.taskfile.specs.declared.kind.Kind.TheVariants as kinds
 use Rattle.taskfile.specs.declared.kind.UnknownKind.{UnknownKind}
-use Rattle.taskfile.specs.Records.{part_byte, little_endian, record_bytes, size_of, number_at, kind_of, body_length, record_of, found_as, found_at}
+use Rattle.taskfile.specs.Records.{Record, part_byte, little_endian, record_bytes, size_of, number_at, kind_of, body_length, record_of, found_as, found_at}
 use Rattle.taskfile.specs.Workers.{body_at}
 
 pub size_is : (r : Record) → length (record_bytes r) ≡ size_of r

@@ -10,8 +10,7 @@ use Rattle.sets.specs.Tests.{Is}
 use Rattle.sets.proofs.Tests.{below_false, below_not}
 use Rattle.std.specs.Prelude.{Ok}
 use Rattle.task.specs.declared.refusal.Fault.TheVariants.{FileLength}
-use Rattle.taskfile.specs.declared.format.Record.{Record}
-use Rattle.taskfile.specs.Records.{longest_file, record_bytes, file_bytes, file_records}
+use Rattle.taskfile.specs.Records.{Record, longest_file, record_bytes, file_bytes, file_records}
 use Rattle.taskfile.specs.Sound.{Contents, Sound, records_of}
 use Rattle.taskfile.specs.Meaning.{contents_of, contents_in}
 use Rattle.taskfile.specs.Judging.{begin, file_verdict}

@@ -12,7 +12,7 @@ use Rattle.task.specs.Check.{wrong_facts, wrong_steps}
 use Rattle.task.proofs.Refusals.{fine_first, fine_rest}
 use Rattle.taskfile.specs.declared.cursor.Cursor.{Cursor}
 use Rattle.taskfile.specs.declared.format.Part.{Part}
-use Rattle.taskfile.specs.declared.format.Record.{Record}
+use Rattle.taskfile.specs.Records.{Record}
 use Rattle.taskfile.specs.declared.format.Record.TheVariants.{End, Head, Step, Names}
 use Rattle.taskfile.specs.Judging.{refused_at, facts_of, steps_of, in_place, numbers_verdict, record_verdict}
 use Rattle.taskfile.specs.Workers.{CanCount}

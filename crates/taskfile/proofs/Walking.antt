@@ -9,9 +9,8 @@ use Rattle.std.specs.Prelude.{Some, None, Result, Ok, Err}
 use Rattle.std.specs.Result.{result_ok}
 use Rattle.task.specs.declared.refusal.Refusal.{Refusal}
 use Rattle.taskfile.specs.declared.format.Part.{Part}
-use Rattle.taskfile.specs.declared.format.Record.{Record}
 use Rattle.taskfile.specs.declared.format.Record.TheVariants.{End, Head, Step, Names}
-use Rattle.taskfile.specs.Records.{size_of, found_at, after_record, records_on, records_in}
+use Rattle.taskfile.specs.Records.{Record, size_of, found_at, after_record, records_on, records_in}
 use Rattle.taskfile.specs.Meaning.{first_namings, blocks_in}
 use Rattle.taskfile.specs.Workers.{records_from, namings_from, blocks_from, sizes_of}
 use Rattle.taskfile.proofs.Records.{no_ok, found_past}

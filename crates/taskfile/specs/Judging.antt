@@ -9,11 +9,10 @@ use Rattle.task.specs.declared.refusal.Fault.{Fault}
 use Rattle.task.specs.declared.refusal.Fault.TheVariants.{FactCount, StepCount, StepCost, ShortResult, CutOff, Misplaced, RecordFact, StepRecords, FileLength}
 use Rattle.task.specs.declared.refusal.Refusal.{Refusal}
 use Rattle.task.specs.declared.tables.Sizes.{Sizes}
-use Rattle.taskfile.specs.declared.format.Record.{Record}
 use Rattle.taskfile.specs.declared.format.Record.TheVariants.{End, Head, Step, Names}
 use Rattle.taskfile.specs.declared.format.Part.{Part}
 use Rattle.taskfile.specs.declared.cursor.Cursor.{Cursor}
-use Rattle.taskfile.specs.Records.{is_first, longest_file, found_at}
+use Rattle.taskfile.specs.Records.{Record, is_first, longest_file, found_at}
 
 -- the refusal at that place, where it applies
 unfoldable pub refused_at : ℕ → Bool → Fault → Verdict

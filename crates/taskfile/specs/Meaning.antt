@@ -6,9 +6,8 @@ use Rattle.sets.specs.Words.{words_of, table_of}
 use Rattle.task.specs.Tables.{Tables, tables}
 use Rattle.taskfile.specs.declared.format.Part.{Part}
 use Rattle.taskfile.specs.declared.format.Part.TheVariants.{Start, Goal, Needs, Sets, Clears}
-use Rattle.taskfile.specs.declared.format.Record.{Record}
 use Rattle.taskfile.specs.declared.format.Record.TheVariants.{End, Head, Step, Names}
-use Rattle.taskfile.specs.Records.{part_byte, file_records}
+use Rattle.taskfile.specs.Records.{Record, part_byte, file_records}
 use Rattle.taskfile.specs.Sound.{Naming, Block, Contents}
 
 -- ---- what stands between head and end

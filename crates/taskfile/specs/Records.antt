@@ -6,11 +6,15 @@ use Rattle.task.specs.declared.refusal.Fault.TheVariants.{RecordKind, CutOff}
 use Rattle.task.specs.declared.refusal.Refusal.{Refusal}
 use Rattle.taskfile.specs.declared.format.Part.{Part}
 use Rattle.taskfile.specs.declared.format.Part.TheVariants.{Start, Goal, Needs, Sets, Clears}
-use Rattle.taskfile.specs.declared.format.Record.{Record}
+use Rattle.taskfile.specs.declared.format.Record as declared
 use Rattle.taskfile.specs.declared.format.Record.TheVariants.{End, Head, Step, Names}
 use Rattle.taskfile.specs.declared.kind.Kind.{Kind}
 use Rattle.taskfile.specs.declared.kind.Kind.TheVariants as kinds
 use Rattle.taskfile.specs.declared.kind.UnknownKind.{UnknownKind}
+
+-- a record as it stands in a file, where a fact is named for a part
+abbrev pub Record : Type 0
+Record = declared.Record Part
 
 -- the most bytes that a file has; `Record::FILE`
 abbrev pub longest_file : ℕ
@@ -44,8 +48,8 @@ record_bytes (Head n m) = 1 ∷ little_endian 2 n ++ little_endian 2 m
 record_bytes (Step cost) = 4 ∷ little_endian 4 cost
 record_bytes (Names part f) = part_byte part ∷ little_endian 2 f
 
--- how many there are: `size_is` in proofs/Records.antt
-abbrev pub size_of : Record → ℕ
+-- how many there are, whatever a fact is named for: `size_is` in proofs/Records.antt
+abbrev pub size_of : {P : Type 0} → declared.Record P → ℕ
 size_of End = 1
 size_of (Head n m) = 5
 size_of (Step cost) = 5

@@ -5,9 +5,8 @@ use Rattle.sets.specs.Tests.{Is, no, both, below}
 use Rattle.task.specs.Limits.{limits}
 use Rattle.task.specs.Check.{wrong_facts, wrong_steps}
 use Rattle.taskfile.specs.declared.format.Part.{Part}
-use Rattle.taskfile.specs.declared.format.Record.{Record}
 use Rattle.taskfile.specs.declared.format.Record.TheVariants.{End, Head, Step, Names}
-use Rattle.taskfile.specs.Records.{is_first, longest_file, file_bytes}
+use Rattle.taskfile.specs.Records.{Record, is_first, longest_file, file_bytes}
 
 -- a fact, with what it is named for
 pub record Naming : Type 0 where

@@ -3,13 +3,12 @@ use Rattle.std.specs.Prelude.{◌≡◌, ℕ, ◌*◌, ◌≤◌, ◌<◌, List,
 use Rattle.sets.specs.Tests.{below, pick}
 use Rattle.task.specs.declared.refusal.Refusal.{Refusal}
 use Rattle.task.specs.declared.tables.Sizes.{Sizes}
-use Rattle.taskfile.specs.declared.format.Record.{Record}
 use Rattle.taskfile.specs.declared.format.Record.TheVariants.{End, Head, Step, Names}
 use Rattle.taskfile.specs.declared.kind.Kind.{Kind}
 use Rattle.taskfile.specs.declared.cursor.Cursor.{Cursor}
 use Rattle.taskfile.specs.declared.fill.StepTables.{StepTables}
 use Rattle.taskfile.specs.declared.iter.Records.{Records}
-use Rattle.taskfile.specs.Records.{body_length, record_of, records_in}
+use Rattle.taskfile.specs.Records.{Record, body_length, record_of, records_in}
 use Rattle.taskfile.specs.Sound.{Naming, Block}
 use Rattle.taskfile.specs.Meaning.{first_namings, blocks_in}
 use Rattle.taskfile.specs.Judging.{steps_of}

@@ -26,19 +26,22 @@ impl Part {
 }
 
 /// A record of the file: the end; the head with the numbers of facts and steps; the next step with
-/// its cost; or a fact, with what it is named for.
-#[derive(Clone, Copy, Debug, PartialEq, Eq)]
-pub enum Record {
+/// its cost; or a fact, with what it is named for: a part, as each record read from a file has, or
+/// anything else that stands for one, such as a byte.
+#[derive(Clone, Copy, Debug, PartialEq, Eq, Drop)]
+pub enum Record<P = Part> {
     End,
     Head(u16, u16),
     Step(u32),
-    Names(Part, u16),
+    Names(P, u16),
 }
 
 impl Record {
     /// The most bytes that a file has.
     pub const FILE: usize = 65535;
+}
 
+impl<P: Drop> Record<P> {
     /// How many bytes it has.
     pub fn size(self) -> usize
         ensures { result ≡ size_of self }
