@@ -16,6 +16,7 @@ use Rattle.task.specs.Refusal.{refusal}
 use Rattle.task.specs.declared.refusal.Fault.TheVariants.{RecordKind, CutOff}
 use Rattle.task.specs.declared.refusal.Refusal.{Refusal}
 use Rattle.taskfile.specs.declared.format.Record.TheVariants.{End, Head, Step, Names}
+use Rattle.taskfile.specs.declared.format.Part.{Part}
 use Rattle.taskfile.specs.declared.format.Part.TheVariants.{Start, Goal, Needs, Sets, Clears}
 use Rattle.taskfile.specs.declared.kind.Kind.{Kind}
 use Rattle.taskfile.specs.declared.kind.Kind.TheVariants as kinds
@@ -29,6 +30,14 @@ size_is End = refl
 size_is (Head n m) = refl
 size_is (Step cost) = refl
 size_is (Names part f) = refl
+
+-- a fact's record has 3 bytes whatever it is named for, as many as a file's has for any part
+pub fact_size : {P : Type 0} (what : P) (f : ℕ) → size_of (Names what f) ≡ 3
+fact_size what f = refl
+
+pub fact_length : {P : Type 0} (what : P) (part : Part) (f g : ℕ) → length (record_bytes (Names part g)) ≡ size_of (Names what f)
+unfolding record_bytes little_endian
+fact_length what part f g = refl
 
 -- what is refused is not found
 pub no_ok : {A X E : Type 0} {e : E} {x : X} → ◌≡◌ {A = Result X E} (Err e) (Ok x) → A
