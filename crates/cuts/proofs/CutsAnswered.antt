@@ -8,8 +8,7 @@ use Rattle.std.specs.Prelude.{Result, Ok, Err}
 use Rattle.sets.specs.Tests.{Is, either, below}
 use Rattle.sets.proofs.Tests.{no_true}
 use Rattle.task.specs.declared.refusal.Fault.TheVariants.{ShortResult, NoWay}
-use Rattle.task.specs.declared.refusal.Refusal.{Refusal}
-use Rattle.task.specs.Refusal.{refusal, answered}
+use Rattle.task.specs.Refusal.{Refusal, refusal, answered}
 use Rattle.task.specs.Tables.{Tables, view}
 use Rattle.task.specs.Check.{verdict_of}
 use Rattle.task.specs.Walks.{goal_holds}

@@ -3,12 +3,11 @@ use Rattle.std.specs.Prelude.{ℕ, ◌*◌, List, [], ◌∷◌, ◌++◌, lengt
 use Rattle.sets.specs.Tests.{no, either, below}
 use Rattle.sets.specs.Words.{words_of}
 use Rattle.task.specs.declared.refusal.Fault.TheVariants.{ShortResult, NoWay}
-use Rattle.task.specs.declared.refusal.Refusal.{Refusal}
 use Rattle.task.specs.Limits.{limits}
 use Rattle.task.specs.Task.{Task}
 use Rattle.task.specs.Tables.{Tables, view}
 use Rattle.task.specs.Walks.{goal_holds}
-use Rattle.task.specs.Refusal.{Verdict, refused_if, first_refusal, answered}
+use Rattle.task.specs.Refusal.{Refusal, Verdict, refused_if, first_refusal, answered}
 use Rattle.task.specs.Check.{verdict_of}
 use Rattle.reach.specs.Reach.{reach}
 use Rattle.cuts.specs.declared.Cutting.{Cutting}

@@ -12,11 +12,10 @@ use Rattle.sets.specs.Words.{has, words_of, row}
 use Rattle.sets.proofs.Tests.{below_true, below_false}
 use Rattle.std.specs.Prelude.{Ok, Err}
 use Rattle.task.specs.declared.refusal.Fault.TheVariants.{ShortResult}
-use Rattle.task.specs.declared.refusal.Refusal.{Refusal}
 use Rattle.task.specs.Limits.{limits}
 use Rattle.task.specs.Task.{Task}
 use Rattle.task.specs.Tables.{Tables, view}
-use Rattle.task.specs.Refusal.{Verdict, refusal}
+use Rattle.task.specs.Refusal.{Refusal, Verdict, refusal}
 use Rattle.task.specs.Check.{verdict_of}
 use Rattle.task.proofs.Refusals.{refuse, skip, none_left, skip_fine, stay}
 use Rattle.task.specs.Checked.{Checked}

@@ -10,9 +10,8 @@ use Rattle.std.specs.Prelude.{Contains, Ok, Err}
 use Rattle.sets.specs.Tests.{Is}
 use Rattle.sets.proofs.Tests.{below_at, pick_true, pick_false}
 use Rattle.task.specs.declared.refusal.Fault.TheVariants as fault
-use Rattle.task.specs.declared.refusal.Refusal.{Refusal}
 use Rattle.task.specs.Tables.{Tables, view}
-use Rattle.task.specs.Refusal.{Verdict, number_of, refusal, answered}
+use Rattle.task.specs.Refusal.{Refusal, Verdict, number_of, refusal, answered}
 use Rattle.task.specs.Check.{sizes_verdict, verdict_of}
 use Rattle.task.specs.Row.{row_verdict, handed_out}
 use Rattle.reach.specs.Answer.{reached_of}

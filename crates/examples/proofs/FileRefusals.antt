@@ -11,8 +11,7 @@ use Rattle.sets.specs.Tests.{below}
 use Rattle.sets.proofs.Tests.{tell, below_at, below_not}
 use Rattle.task.specs.declared.refusal.Fault.{Fault}
 use Rattle.task.specs.declared.refusal.Fault.TheVariants.{FileLength}
-use Rattle.task.specs.declared.refusal.Refusal.{Refusal}
-use Rattle.task.specs.Refusal.{Verdict, number_of, refusal}
+use Rattle.task.specs.Refusal.{Refusal, Verdict, number_of, refusal}
 use Rattle.task.proofs.Refusals.{refused_fine}
 use Rattle.taskfile.specs.Records.{longest_file}
 use Rattle.taskfile.specs.Judging.{begin, file_verdict}

@@ -9,8 +9,7 @@ use Rattle.std.specs.Prelude.{Contains, Ok, Err}
 use Rattle.sets.specs.Tests.{Is}
 use Rattle.sets.proofs.Tests.{tell}
 use Rattle.task.specs.declared.refusal.Fault.{Fault}
-use Rattle.task.specs.declared.refusal.Refusal.{Refusal}
-use Rattle.task.specs.Refusal.{Verdict, number_of, refused_if, or_else, first_refusal}
+use Rattle.task.specs.Refusal.{Refusal, Verdict, number_of, refused_if, or_else, first_refusal}
 use Rattle.task.proofs.Refusals.{refused_fine}
 use Rattle.examples.specs.Refusals.{Rule, rule, numbers_of, NoneApplies, FirstThatApplies, Judged, AtZero}
 

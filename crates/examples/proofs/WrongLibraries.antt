@@ -6,10 +6,9 @@ use native.Mathlib.Omega.{arith}
 use lib.ListN.{get_or, drop}
 use Rattle.std.specs.Prelude.{Ok, Err}
 use Rattle.sets.specs.declared.bits.Bits.{Bits}
-use Rattle.task.specs.declared.refusal.Refusal.{Refusal}
 use Rattle.task.specs.Limits.{limits}
 use Rattle.task.specs.Tables.{Tables, view}
-use Rattle.task.specs.Refusal.{Verdict}
+use Rattle.task.specs.Refusal.{Refusal, Verdict}
 use Rattle.task.specs.Check.{verdict_of}
 use Rattle.task.proofs.Refusals.{refused_fine}
 use Rattle.reach.specs.declared.Reached.{Reached}

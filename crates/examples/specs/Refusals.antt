@@ -5,8 +5,7 @@ use Rattle.sets.specs.Tests.{Is}
 use Rattle.sets.specs.Words.{has, row}
 use Rattle.task.specs.declared.refusal.Fault.{Fault}
 use Rattle.task.specs.declared.refusal.Fault.TheVariants as fault
-use Rattle.task.specs.declared.refusal.Refusal.{Refusal}
-use Rattle.task.specs.Refusal.{Verdict, number_of, refusal}
+use Rattle.task.specs.Refusal.{Refusal, Verdict, number_of, refusal}
 use Rattle.task.specs.Tables.{Tables, view}
 use Rattle.task.specs.Walks.{way_to_goal}
 use Rattle.replay.specs.Replay.{first_past}

@@ -3,9 +3,8 @@
 use Rattle.std.specs.Prelude.{ℕ, ◌+◌, ◌^◌, List, [], ◌∷◌, ◌++◌, length, Result, Ok, Err}
 use Rattle.sets.specs.declared.bits.Bits.{Bits}
 use Rattle.task.specs.declared.refusal.Fault.TheVariants.{NoWay}
-use Rattle.task.specs.declared.refusal.Refusal.{Refusal}
 use Rattle.task.specs.Limits.{limits}
-use Rattle.task.specs.Refusal.{Verdict, refusal}
+use Rattle.task.specs.Refusal.{Refusal, Verdict, refusal}
 use Rattle.task.specs.Tables.{Tables, tables}
 use Rattle.reach.specs.declared.Reached.{Reached}
 use Rattle.cuts.specs.declared.Cutting.{Cutting}

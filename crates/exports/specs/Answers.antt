@@ -1,8 +1,7 @@
 -- The answers as plain numbers: each field is one of the library's own answer, so that the numbers of refusals, places, passes, rounds and costs are those of document 01.
 use Rattle.std.specs.Prelude.{Result, Ok, Err}
-use Rattle.task.specs.declared.refusal.Refusal.{Refusal}
 use Rattle.task.specs.declared.tables.Sizes.{Sizes}
-use Rattle.task.specs.Refusal.{number_of}
+use Rattle.task.specs.Refusal.{Refusal, number_of}
 use Rattle.reach.specs.declared.Reached.{Reached}
 use Rattle.cuts.specs.declared.Cutting.{Cutting}
 use Rattle.replay.specs.declared.Replayed.{Replayed}

@@ -1,7 +1,7 @@
 -- What stands in a lent set after the call: the words of the answer, or, where it is refused, what stood there.
 use Rattle.std.specs.Prelude.{ℕ, List, Result, Ok, Err}
 use Rattle.sets.specs.declared.bits.Bits.{Bits}
-use Rattle.task.specs.declared.refusal.Refusal.{Refusal}
+use Rattle.task.specs.Refusal.{Refusal}
 use Rattle.reach.specs.declared.Reached.{Reached}
 
 -- of a set of k words

@@ -1,10 +1,9 @@
 -- What `reach` answers: the set and the number of passes, or why the task is refused.
 use Rattle.std.specs.Prelude.{Result}
 use Rattle.sets.specs.Words.{words_of}
-use Rattle.task.specs.declared.refusal.Refusal.{Refusal}
 use Rattle.task.specs.Task.{Task}
 use Rattle.task.specs.Tables.{Tables, view}
-use Rattle.task.specs.Refusal.{answered}
+use Rattle.task.specs.Refusal.{Refusal, answered}
 use Rattle.task.specs.Check.{verdict_of}
 use Rattle.reach.specs.declared.Reached.{Reached}
 use Rattle.reach.specs.Reach.{reach, passes}

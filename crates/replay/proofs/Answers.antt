@@ -11,11 +11,10 @@ use Rattle.sets.specs.Words.{has, words_of}
 use Rattle.sets.proofs.Tests.{compare}
 use Rattle.std.specs.Prelude.{Result, Ok, Err}
 use Rattle.task.specs.declared.refusal.Fault.TheVariants.{WalkLength, StepNumber}
-use Rattle.task.specs.declared.refusal.Refusal.{Refusal}
 use Rattle.task.specs.Tables.{Tables, view}
 use Rattle.task.specs.Walks.{real_walk, walk_cost}
 use Rattle.task.specs.Check.{verdict_of}
-use Rattle.task.specs.Refusal.{number_of, refusal, answered}
+use Rattle.task.specs.Refusal.{Refusal, number_of, refusal, answered}
 use Rattle.task.proofs.Refusals.{answered_ok, ok_not_err}
 use Rattle.replay.specs.declared.Replayed.{Replayed}
 use Rattle.replay.specs.declared.Replayed.TheVariants.{Done}

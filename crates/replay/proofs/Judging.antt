@@ -17,9 +17,8 @@ use Rattle.std.proofs.lemmas.Grind.{common_steps}
 use Rattle.std.proofs.lemmas.List.Quantifiers.{position-Some}
 use Rattle.std.proofs.lemmas.List.Sums.{fails_before_first}
 use Rattle.task.specs.declared.refusal.Fault.TheVariants.{WalkLength, StepNumber}
-use Rattle.task.specs.declared.refusal.Refusal.{Refusal}
 use Rattle.task.specs.Tables.{Tables, view}
-use Rattle.task.specs.Refusal.{Verdict, refusal, first_refusal}
+use Rattle.task.specs.Refusal.{Refusal, Verdict, refusal, first_refusal}
 use Rattle.task.specs.Check.{verdict_of}
 use Rattle.task.specs.Checked.{Checked}
 use Rattle.task.proofs.Refusals.{refuse, skip, none_left, skip_fine, stay, fine_first, fine_rest, fine_if, refused_fine}

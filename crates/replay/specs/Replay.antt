@@ -3,12 +3,11 @@ use Rattle.std.specs.Prelude.{ℕ, suc, List, [], ◌∷◌, length, get_or, Res
 use Rattle.sets.specs.Tests.{no, below, pick}
 use Rattle.sets.specs.Sets.{Set, lowest}
 use Rattle.task.specs.declared.refusal.Fault.TheVariants.{WalkLength, StepNumber}
-use Rattle.task.specs.declared.refusal.Refusal.{Refusal}
 use Rattle.task.specs.Limits.{limits}
 use Rattle.task.specs.Task.{Task}
 use Rattle.task.specs.Walks.{possible, taking, after, goal_holds, walk_cost}
 use Rattle.task.specs.Tables.{Tables, view}
-use Rattle.task.specs.Refusal.{Verdict, refusal, refused_if, first_refusal, answered}
+use Rattle.task.specs.Refusal.{Refusal, Verdict, refusal, refused_if, first_refusal, answered}
 use Rattle.task.specs.Check.{verdict_of}
 use Rattle.replay.specs.declared.Replayed.{Replayed}
 use Rattle.replay.specs.declared.Replayed.TheVariants.{Done, Stuck, Short}

@@ -8,8 +8,7 @@ use Rattle.sets.specs.Tests.{Is}
 use Rattle.sets.proofs.Tests.{no_true, no_of}
 use Rattle.std.specs.Prelude.{Ok, Err}
 use Rattle.task.specs.declared.refusal.Fault.TheVariants.{NoWay}
-use Rattle.task.specs.declared.refusal.Refusal.{Refusal}
-use Rattle.task.specs.Refusal.{number_of}
+use Rattle.task.specs.Refusal.{Refusal, number_of}
 use Rattle.task.specs.Tables.{view}
 use Rattle.task.specs.Walks.{goal_holds}
 use Rattle.task.proofs.Refusals.{refuse, skip, skip_fine, none_left}

@@ -9,10 +9,9 @@ use lib.Seq.{take_at}
 use Rattle.std.specs.Prelude.{Ok, Err}
 use Rattle.sets.specs.Tests.{Is, no, both, below}
 use Rattle.sets.proofs.Tests.{below_false, below_not, below_iff, no_false}
-use Rattle.task.specs.declared.refusal.Refusal.{Refusal}
 use Rattle.task.specs.declared.tables.Sizes.{Sizes}
 use Rattle.task.specs.Tables.{Tables, tables}
-use Rattle.task.specs.Refusal.{Verdict, or_else, number_of}
+use Rattle.task.specs.Refusal.{Refusal, Verdict, or_else, number_of}
 use Rattle.task.specs.Check.{verdict_of}
 use Rattle.task.specs.Checked.{Checked}
 use Rattle.task.proofs.Refusals.{answered_ok, answered_err}

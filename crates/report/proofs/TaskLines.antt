@@ -12,9 +12,8 @@ use Rattle.sets.specs.Tests.{Is, no}
 use Rattle.sets.specs.Words.{has, words_of}
 use Rattle.sets.proofs.Tests.{below_false, either_false}
 use Rattle.task.specs.declared.refusal.Fault.TheVariants.{NoWay}
-use Rattle.task.specs.declared.refusal.Refusal.{Refusal}
 use Rattle.task.specs.Tables.{Tables, view}
-use Rattle.task.specs.Refusal.{refused_if, or_else, first_refusal, Verdict}
+use Rattle.task.specs.Refusal.{Refusal, refused_if, or_else, first_refusal, Verdict}
 use Rattle.task.specs.Check.{verdict_of}
 use Rattle.task.specs.Checked.{Checked}
 use Rattle.task.proofs.Refusals.{refused_fine, answered_ok, answered_err, stay, fine_first, fine_rest, fine_test}

@@ -3,8 +3,7 @@ use Prim.Native.Nat.{ℕ}
 use mathlib.Core.Path.{◌≡◌, refl, sym, ap, ◌∙◌}
 use mathlib.Core.List.{List, [], ◌∷◌, ◌++◌}
 use Rattle.std.specs.Prelude.{Err}
-use Rattle.task.specs.declared.refusal.Refusal.{Refusal}
-use Rattle.task.specs.Refusal.{Verdict}
+use Rattle.task.specs.Refusal.{Refusal, Verdict}
 use Rattle.report.specs.declared.text.Page.{Page as Lent}
 use Rattle.report.specs.Page.{Page, putting, written}
 use Rattle.report.specs.Writing.{held, Writes, WritesUnless}

@@ -24,8 +24,7 @@ use Rattle.task.specs.Check.{right_lengths, only_facts, right_sets, right_costs,
 use Rattle.task.proofs.Refusals.{fine_first, fine_rest, fine_test, refuse, skip, none_left, skip_fine, stay}
 use Rattle.task.proofs.Sizing.{sized}
 use lib.Dec.{eqb}
-use Rattle.task.specs.Refusal.{refused_if, first_refusal, Verdict, refusal}
-use Rattle.task.specs.declared.refusal.Refusal.{Refusal}
+use Rattle.task.specs.Refusal.{Refusal, refused_if, first_refusal, Verdict, refusal}
 
 -- ---- the tests of checking: lengths, the row that is looked at in the loop of `only_facts`, and the costs by a chain
 

@@ -10,10 +10,9 @@ use Rattle.sets.specs.Tests.{same, pick, no, both, below}
 use Rattle.sets.specs.Words.{row}
 use Rattle.sets.proofs.Tests.{both_l, both_r, below_at, below_not, same_at, no_true, no_of, both_true, both_false_l, both_false_r, below_true, below_false, same_true, same_false}
 use Rattle.task.specs.declared.refusal.Fault.TheVariants.{TableLength, StepNumber, RowKind}
-use Rattle.task.specs.declared.refusal.Refusal.{Refusal}
 use Rattle.task.specs.declared.row.Row.{Row}
 use Rattle.task.specs.declared.row.Row.TheVariants.{Needs, Sets}
-use Rattle.task.specs.Refusal.{Verdict, answered, refused_if, first_refusal, refusal}
+use Rattle.task.specs.Refusal.{Refusal, Verdict, answered, refused_if, first_refusal, refusal}
 use Rattle.task.specs.Row.{row_of, row_verdict, handed_out, handed_at}
 use Rattle.task.proofs.Sizing.{sized}
 use Rattle.task.proofs.Refusals.{fine_first, fine_rest, fine_if, fine_test, answered_ok, answered_err, refuse, skip, none_left, skip_fine, stay}

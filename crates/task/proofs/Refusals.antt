@@ -7,8 +7,7 @@ use native.Mathlib.Omega.{arith}
 use Rattle.sets.specs.Tests.{Is, no}
 use Rattle.std.specs.Prelude.{Result, Ok, Err}
 use Rattle.task.specs.declared.refusal.Fault.{Fault}
-use Rattle.task.specs.declared.refusal.Refusal.{Refusal}
-use Rattle.task.specs.Refusal.{Verdict, refusal, refused_if, or_else, first_refusal, answered}
+use Rattle.task.specs.Refusal.{Refusal, Verdict, refusal, refused_if, or_else, first_refusal, answered}
 
 pub refused_fine : {A : Type 0} {r : Refusal} → ◌≡◌ {A = Verdict} (Err r) (Ok tt) → A
 refused_fine {A} {r} e = let z : ◌≡◌ {A = ℕ} 0 1 = cc in absurd (omega arith)

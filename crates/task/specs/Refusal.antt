@@ -3,7 +3,11 @@ use Rattle.std.specs.Prelude.{ℕ, Bool, true, false, List, [], ◌∷◌, ◌++
 use Rattle.std.specs.Fmt.{decimal}
 use Rattle.task.specs.declared.refusal.Fault.{Fault}
 use Rattle.task.specs.declared.refusal.Fault.TheVariants.{FactCount, StepCount, TableLength, FactNumber, StepCost, ShortResult, NoWay, WalkLength, StepNumber, RowKind, RecordKind, CutOff, Misplaced, RecordFact, StepRecords, FileLength}
-use Rattle.task.specs.declared.refusal.Refusal.{Refusal}
+use Rattle.task.specs.declared.refusal.Refusal as declared
+
+-- a refusal that an operation gives: a fault and its place
+abbrev pub Refusal : Type 0
+Refusal = declared.Refusal Fault
 
 -- the number of a fault
 abbrev pub number_of : Fault → ℕ

@@ -3,10 +3,9 @@ use Rattle.std.specs.Prelude.{ℕ, ◌+◌, ◌*◌, List, [], ◌∷◌, length
 use Rattle.sets.specs.Tests.{no, both, below, same, pick}
 use Rattle.sets.specs.Words.{row}
 use Rattle.task.specs.declared.refusal.Fault.TheVariants.{TableLength, StepNumber, RowKind}
-use Rattle.task.specs.declared.refusal.Refusal.{Refusal}
 use Rattle.task.specs.declared.row.Row.{Row}
 use Rattle.task.specs.declared.row.Row.TheVariants.{Needs, Sets}
-use Rattle.task.specs.Refusal.{Verdict, refused_if, first_refusal, answered}
+use Rattle.task.specs.Refusal.{Refusal, Verdict, refused_if, first_refusal, answered}
 use Rattle.task.specs.Check.{sizes_verdict}
 
 -- the row that a number asks for; 10 where it asks for none

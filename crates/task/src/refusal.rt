@@ -42,11 +42,11 @@ pub enum Fault {
     FileLength,
 }
 
-/// A fault and its place: the entry of a walk, the offset of a record in a file, and 0 where the fault
-/// has no place.
+/// What is wrong, as its fault or as a bare number, and its place: the entry of a walk, the offset of a
+/// record in a file, and 0 where it has no place.
 #[derive(Clone, Copy, Debug, PartialEq, Eq)]
-pub struct Refusal {
-    pub fault: Fault,
+pub struct Refusal<F = Fault> {
+    pub fault: F,
     pub place: usize,
 }
 
@@ -91,11 +91,29 @@ impl Fault {
     }
 }
 
+impl From<Fault> for u8 {
+    ghost from_gives = { λ fault number. number ≡ number_of fault };
+
+    fn from(fault: Fault) -> u8 {
+        fault.number()
+    }
+}
+
+impl<F: Into<u8>> Refusal<F> {
+    /// The number of the refusal: that of its fault, or, where it is made of a bare number, that number,
+    /// whichever it is.
+    pub fn number(self) -> u8
+        ensures { F.converts self.fault result }
+    {
+        self.fault.into()
+    }
+}
+
 impl fmt::Display for Refusal {
     ghost output = { λ refusal. Some (refusal_text refusal) };
 
     fn fmt<W: fmt::Write>(&self, f: &mut fmt::Formatter<W>) -> fmt::Result {
-        let number = self.fault.number();
+        let number = self.number();
         let place = self.place;
         write!(f, "refused {number} {place}")
     }

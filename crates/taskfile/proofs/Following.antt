@@ -9,8 +9,7 @@ use lib.ListN.{length, drop, length-drop, drop_of_length-le}
 use Rattle.sets.proofs.Tests.{below_true, below_false, below_not, pick_true, pick_false, compare}
 use Rattle.std.specs.Prelude.{Option, Some, None, Result, Ok, Err}
 use Rattle.task.specs.declared.refusal.Fault.TheVariants.{Misplaced}
-use Rattle.task.specs.declared.refusal.Refusal.{Refusal}
-use Rattle.task.specs.Refusal.{Verdict, answered}
+use Rattle.task.specs.Refusal.{Refusal, Verdict, answered}
 use Rattle.task.proofs.Refusals.{refused_fine}
 use Rattle.taskfile.specs.declared.format.Part.{Part}
 use Rattle.taskfile.specs.declared.format.Record.TheVariants.{End, Head, Step, Names}

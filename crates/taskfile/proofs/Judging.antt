@@ -9,8 +9,7 @@ use lib.ListN.{length, get_or}
 use Rattle.std.specs.Prelude.{Option, Some, None, Result, Ok, Err}
 use Rattle.sets.proofs.Tests.{below_true, below_false, pick_true, pick_false, compare}
 use Rattle.task.specs.declared.refusal.Fault.TheVariants.{RecordKind, CutOff, Misplaced, FileLength}
-use Rattle.task.specs.declared.refusal.Refusal.{Refusal}
-use Rattle.task.specs.Refusal.{Verdict, refusal, answered}
+use Rattle.task.specs.Refusal.{Refusal, Verdict, refusal, answered}
 use Rattle.taskfile.specs.declared.cursor.Cursor.{Cursor}
 use Rattle.taskfile.specs.declared.format.Record.TheVariants.{End, Head, Step, Names}
 use Rattle.taskfile.specs.declared.kind.Kind.{Kind}

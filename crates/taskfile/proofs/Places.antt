@@ -11,8 +11,7 @@ use Rattle.sets.proofs.Tests.{tell, below_at, below_not, pick_true, pick_false}
 use Rattle.std.specs.Prelude.{Option, Some, None, Result, Ok, Err}
 use Rattle.task.specs.declared.refusal.Fault.{Fault}
 use Rattle.task.specs.declared.refusal.Fault.TheVariants.{FactCount, StepCount, StepCost, ShortResult, RecordKind, CutOff, Misplaced, RecordFact, StepRecords, FileLength}
-use Rattle.task.specs.declared.refusal.Refusal.{Refusal}
-use Rattle.task.specs.Refusal.{Verdict, refusal, or_else, first_refusal, answered}
+use Rattle.task.specs.Refusal.{Refusal, Verdict, refusal, or_else, first_refusal, answered}
 use Rattle.taskfile.specs.declared.format.Record.TheVariants.{End, Head, Step, Names}
 use Rattle.taskfile.specs.declared.kind.Kind.{Kind}
 use Rattle.taskfile.specs.declared.kind.UnknownKind.{UnknownKind}

@@ -12,8 +12,7 @@ use Rattle.sets.specs.Words.{words_of, with_row, table_of}
 use Rattle.sets.proofs.Tests.{both_l, both_r, no_false, below_not}
 use Rattle.sets.proofs.Words.{length_words_of}
 use Rattle.sets.proofs.Writing.{write_start, write_next, write_end}
-use Rattle.task.specs.declared.refusal.Refusal.{Refusal}
-use Rattle.task.specs.Refusal.{Verdict, answered}
+use Rattle.task.specs.Refusal.{Refusal, Verdict, answered}
 use Rattle.taskfile.specs.declared.cursor.Room.{Room}
 use Rattle.taskfile.specs.declared.format.Part.TheVariants.{Start, Goal, Needs, Sets, Clears}
 use Rattle.taskfile.specs.declared.format.Record.TheVariants.{Head}

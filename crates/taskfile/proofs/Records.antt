@@ -12,9 +12,8 @@ use Rattle.std.proofs.Common.{nat_eq}
 use Rattle.std.specs.Option.{ok_or}
 use Rattle.std.specs.Prelude.{Option, Some, None, Result, Ok, Err}
 use Rattle.sets.proofs.Tests.{below_true, below_false, pick_true, pick_false, compare}
-use Rattle.task.specs.Refusal.{refusal}
+use Rattle.task.specs.Refusal.{Refusal, refusal}
 use Rattle.task.specs.declared.refusal.Fault.TheVariants.{RecordKind, CutOff}
-use Rattle.task.specs.declared.refusal.Refusal.{Refusal}
 use Rattle.taskfile.specs.declared.format.Record.TheVariants.{End, Head, Step, Names}
 use Rattle.taskfile.specs.declared.format.Part.{Part}
 use Rattle.taskfile.specs.declared.format.Part.TheVariants.{Start, Goal, Needs, Sets, Clears}

@@ -7,8 +7,7 @@ use Rattle.std.specs.Prelude.{Ok, Err}
 use Rattle.sets.specs.Tests.{Is, no}
 use Rattle.sets.proofs.Tests.{no_of}
 use Rattle.task.specs.declared.refusal.Fault.{Fault}
-use Rattle.task.specs.declared.refusal.Refusal.{Refusal}
-use Rattle.task.specs.Refusal.{Verdict, refusal, or_else, first_refusal}
+use Rattle.task.specs.Refusal.{Refusal, Verdict, refusal, or_else, first_refusal}
 use Rattle.task.proofs.Refusals.{refused_fine}
 use Rattle.taskfile.specs.Judging.{refused_at}
 

@@ -7,7 +7,7 @@ use native.Mathlib.Omega.{arith}
 use lib.ListN.{length}
 use Rattle.std.specs.Prelude.{Some, None, Result, Ok, Err}
 use Rattle.std.specs.Result.{result_ok}
-use Rattle.task.specs.declared.refusal.Refusal.{Refusal}
+use Rattle.task.specs.Refusal.{Refusal}
 use Rattle.taskfile.specs.declared.format.Part.{Part}
 use Rattle.taskfile.specs.declared.format.Record.TheVariants.{End, Head, Step, Names}
 use Rattle.taskfile.specs.Records.{Record, size_of, found_at, after_record, records_on, records_in}

@@ -2,8 +2,7 @@
 use Rattle.std.specs.Prelude.{ℕ, ◌*◌, Bool, List, ◌++◌, length, drop, Result, Ok, Err}
 use Rattle.sets.specs.Tests.{no, both, below}
 use Rattle.task.specs.Tables.{Tables}
-use Rattle.task.specs.Refusal.{Verdict, answered}
-use Rattle.task.specs.declared.refusal.Refusal.{Refusal}
+use Rattle.task.specs.Refusal.{Refusal, Verdict, answered}
 use Rattle.task.specs.declared.tables.Sizes.{Sizes}
 use Rattle.taskfile.specs.declared.cursor.Room.{Room}
 use Rattle.taskfile.specs.Judging.{file_verdict}

@@ -4,10 +4,9 @@ use Rattle.std.specs.Option.{is_some}
 use Rattle.sets.specs.Tests.{no, both, below, same, pick}
 use Rattle.task.specs.Limits.{limits}
 use Rattle.task.specs.Check.{wrong_facts, wrong_steps}
-use Rattle.task.specs.Refusal.{Verdict, refusal, or_else, first_refusal, answered}
+use Rattle.task.specs.Refusal.{Refusal, Verdict, refusal, or_else, first_refusal, answered}
 use Rattle.task.specs.declared.refusal.Fault.{Fault}
 use Rattle.task.specs.declared.refusal.Fault.TheVariants.{FactCount, StepCount, StepCost, ShortResult, CutOff, Misplaced, RecordFact, StepRecords, FileLength}
-use Rattle.task.specs.declared.refusal.Refusal.{Refusal}
 use Rattle.task.specs.declared.tables.Sizes.{Sizes}
 use Rattle.taskfile.specs.declared.format.Record.TheVariants.{End, Head, Step, Names}
 use Rattle.taskfile.specs.declared.format.Part.{Part}

@@ -1,9 +1,8 @@
 -- The records of a task file and their bytes, as document 01's table has them.
 use Rattle.std.specs.Prelude.{ℕ, zero, suc, ◌+◌, ◌*◌, ◌/◌, ◌%◌, ◌==◌, if◌then◌else◌, Bool, true, false, List, [], ◌∷◌, ◌++◌, length, get_or, Result, Ok, Err}
 use Rattle.sets.specs.Tests.{below, pick}
-use Rattle.task.specs.Refusal.{refusal}
+use Rattle.task.specs.Refusal.{Refusal, refusal}
 use Rattle.task.specs.declared.refusal.Fault.TheVariants.{RecordKind, CutOff}
-use Rattle.task.specs.declared.refusal.Refusal.{Refusal}
 use Rattle.taskfile.specs.declared.format.Part.{Part}
 use Rattle.taskfile.specs.declared.format.Part.TheVariants.{Start, Goal, Needs, Sets, Clears}
 use Rattle.taskfile.specs.declared.format.Record as declared

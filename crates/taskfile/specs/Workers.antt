@@ -1,7 +1,7 @@
 -- What the workers of the reader find: the records of a file from an offset on, and room for the steps among them.
 use Rattle.std.specs.Prelude.{◌≡◌, ℕ, ◌*◌, ◌≤◌, ◌<◌, List, length, Option, Some, None, Result, Ok, Err}
 use Rattle.sets.specs.Tests.{below, pick}
-use Rattle.task.specs.declared.refusal.Refusal.{Refusal}
+use Rattle.task.specs.Refusal.{Refusal}
 use Rattle.task.specs.declared.tables.Sizes.{Sizes}
 use Rattle.taskfile.specs.declared.format.Record.TheVariants.{End, Head, Step, Names}
 use Rattle.taskfile.specs.declared.kind.Kind.{Kind}
