@@ -240,6 +240,7 @@ module _ (t : Tables) (valid : Checked t) (counted : Set) (chosen : List ℕ) (e
   T = view t
 
   module _ (costs : List ℕ) where
+    -- a step makes of the zone what the rule of the zone says
     pub zone_ruled : (makes : ℕ → Facts → Facts → Type 0)
         → ((s : ℕ) (X Y : Facts) → s < length chosen → makes s X Y
         → Y.words ≡ words_of 4 (joined (has X.words) (met (up_to t.facts) (zone_by T costs counted chosen (has X.words) s))))
@@ -269,6 +270,7 @@ module _ (t : Tables) (valid : Checked t) (counted : Set) (chosen : List ℕ) (e
             ]
 
   module _ (zone : Set) where
+    -- and of the region what the rule of the region says
     pub region_ruled : (makes : ℕ → Facts → Facts → Type 0)
         → ((s : ℕ) (X Y : Facts) → s < length chosen → makes s X Y
         → Y.words ≡ words_of 4 (joined (has X.words) (met (up_to t.facts) (region_by T counted chosen zone (has X.words) s))))

@@ -4,8 +4,7 @@
 // as in specs/Cut.antt (lowest_farthest). The arcs of a step run from its chosen need to every fact that
 // it sets. "begin" is never in the zone and always in the region, so both are sets of facts.
 ghost use Rattle.std.specs.Prelude.{◌≡◌, ℕ, ◌<◌, length};
-ghost use Rattle.sets.specs.Tests.{Is};
-ghost use Rattle.sets.specs.Sets.{Set, up_to, joined, met};
+ghost use Rattle.sets.specs.Sets.{up_to, joined, met};
 ghost use Rattle.sets.specs.Words.{has, words_of};
 ghost use Rattle.task.specs.Lent.{lent};
 ghost use Rattle.task.specs.Tables.{view};

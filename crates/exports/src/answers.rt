@@ -68,7 +68,7 @@ impl<T: Copy> From<Result<T, Refusal>> for Answer {
                 place: 0,
             },
             Err(refusal) => {
-                let number = u64::from(refusal.fault.number());
+                let number = u64::from(refusal.number());
                 let place = refusal.place as u64;
                 Answer { number, place }
             }

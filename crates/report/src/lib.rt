@@ -53,9 +53,6 @@ fn write_report(file: &[u8], page: &mut Page<'_>)
     // Stays number and place, not Display: std promises nothing of what a `write!` that fails has
     // written.
     if let Err(refusal) = analysis::file_report(file, page) {
-        page.line(
-            b"refused",
-            &[usize::from(refusal.fault.number()), refusal.place],
-        );
+        page.line(b"refused", &[usize::from(refusal.number()), refusal.place]);
     }
 }

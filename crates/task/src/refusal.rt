@@ -44,7 +44,7 @@ pub enum Fault {
 
 /// What is wrong, as its fault or as a bare number, and its place: the entry of a walk, the offset of a
 /// record in a file, and 0 where it has no place.
-#[derive(Clone, Copy, Debug, PartialEq, Eq)]
+#[derive(Clone, Copy, Debug, PartialEq, Eq, Drop)]
 pub struct Refusal<F = Fault> {
     pub fault: F,
     pub place: usize,
@@ -100,8 +100,8 @@ impl From<Fault> for u8 {
 }
 
 impl<F: Into<u8>> Refusal<F> {
-    /// The number of the refusal: that of its fault, or, where it is made of a bare number, that number,
-    /// whichever it is.
+    /// The number of the refusal. One that is made by hand of a bare number, whichever it is, gives that
+    /// number back.
     pub fn number(self) -> u8
         ensures { F.converts self.fault result }
     {

@@ -15,7 +15,7 @@ use Rattle.taskfile.specs.declared.format.Record.TheVariants.{End, Head, Step, N
 use Rattle.taskfile.specs.declared.kind.Kind.{Kind}
 use Rattle.taskfile.specs.declared.kind.Kind.TheVariants as kinds
 use Rattle.taskfile.specs.declared.kind.UnknownKind.{UnknownKind}
-use Rattle.taskfile.specs.Records.{Record, part_byte, little_endian, record_bytes, size_of, number_at, kind_of, body_length, record_of, found_at}
+use Rattle.taskfile.specs.Records.{Record, part_byte, little_endian, bytes_by, record_bytes, size_of, number_at, kind_of, body_length, record_of, found_at}
 use Rattle.taskfile.proofs.Records.{no_ok, size_is, kind_byte, kind_of_byte, byte_is, found_unknown, found_broken, found_whole}
 
 -- each entry is a byte
@@ -137,7 +137,7 @@ module _ (file : List ℕ) (bytes : Bytes file) where
   -- its body, with the kind before it
   bytes_of_kind : (kind : Kind) (at : ℕ) → at + body_length kind ≤ length file
       → record_bytes (record_of kind file at) ≡ kind_byte kind ∷ take (body_length kind) (drop at file)
-  unfolding record_bytes record_of body_length
+  unfolding bytes_by record_of body_length
   bytes_of_kind kinds.End at h = refl
   bytes_of_kind kinds.Head at h =
       rw (bytes_read 2 file at bytes (omega arith), bytes_read 2 file (at + 2) bytes (omega arith), ← drop-drop 2 at file)
@@ -164,13 +164,13 @@ module _ (file : List ℕ) (at : ℕ) where
   found_of : (kind : Kind) (r : Record) (rest : List ℕ) → drop at file ≡ record_bytes r ++ rest → get_or file at 0 ≡ kind_byte kind
       → record_of kind file (suc at) ≡ r → found_at file at ≡ Ok r
   found_of kind r rest e first is =
-      let long = size_is r in
+      let long = size_is part_byte r in
       let size : size_of r ≡ suc (body_length kind) = ap size_of (sym is) ∙ size_of_kind kind file (suc at) in
       found_whole file at (ap kind_of first ∙ kind_of_byte kind)
       (omega (arith, stands_within file at (record_bytes r) rest (omega arith) e)) ∙ ap Ok is
 
   pub found_record : {r : Record} → Writable r → (rest : List ℕ) → drop at file ≡ record_bytes r ++ rest → found_at file at ≡ Ok r
-  unfolding record_bytes little_endian record_of
+  unfolding bytes_by little_endian record_of
   found_record end_writable rest e = found_of kinds.End End rest e (first_is file at e) refl
   found_record (head_writable {n} {m} a b) rest e =
       let body : drop (suc at) file ≡ little_endian 2 n ++ (little_endian 2 m ++ rest) = rest_is file at e ∙ append_assoc (little_endian 2 n) (little_endian 2 m) rest in

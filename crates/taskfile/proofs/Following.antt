@@ -14,7 +14,7 @@ use Rattle.task.proofs.Refusals.{refused_fine}
 use Rattle.taskfile.specs.declared.format.Part.{Part}
 use Rattle.taskfile.specs.declared.format.Record.TheVariants.{End, Head, Step, Names}
 use Rattle.taskfile.specs.declared.cursor.Cursor.{Cursor}
-use Rattle.taskfile.specs.Records.{Record, size_of, record_bytes, file_bytes, found_at, after_record, records_on, records_in}
+use Rattle.taskfile.specs.Records.{Record, part_byte, size_of, bytes_by, record_bytes, file_bytes, found_at, after_record, records_on, records_in}
 use Rattle.taskfile.specs.Judging.{after, record_verdict, went_on, if_fine, found_judged, judged_at, onward, records_verdict}
 use Rattle.taskfile.proofs.Records.{size_is}
 use Rattle.taskfile.proofs.Refusing.{at_fine, fine_at}
@@ -85,7 +85,7 @@ module _ (room : ℕ → Bool) (file : List ℕ) where
     next_stands : drop (after c r).at file ≡ file_bytes rs
     unfolding file_bytes
     next_stands =
-        let place : (after c r).at ≡ c.at + length (record_bytes r) = omega (arith, after_at c r, size_is r) in
+        let place : (after c r).at ≡ c.at + length (record_bytes r) = omega (arith, after_at c r, size_is part_byte r) in
         ap (λ k. drop k file) place ∙ stands_next file c.at (record_bytes r) (file_bytes rs) stands
 
     next_found : Writable r → found_at file c.at ≡ Ok r
@@ -94,7 +94,7 @@ module _ (room : ℕ → Bool) (file : List ℕ) where
 
   -- an end that is the last ends it well
   end_last : (c : Cursor) → drop c.at file ≡ file_bytes (End ∷ []) → went_on (length file) c End ≡ Ok None
-  unfolding went_on answered file_bytes record_bytes
+  unfolding went_on answered file_bytes bytes_by
   end_last c stands =
       let stop : length file ≤ c.at + 1 = omega (arith, length-drop c.at file, ap length stands) in
       ap (λ v. answered v None) (at_fine (c.at + 1) Misplaced (below_false (c.at + 1) (length file) stop))

@@ -14,29 +14,22 @@ use Rattle.std.specs.Prelude.{Option, Some, None, Result, Ok, Err}
 use Rattle.sets.proofs.Tests.{below_true, below_false, pick_true, pick_false, compare}
 use Rattle.task.specs.Refusal.{Refusal, refusal}
 use Rattle.task.specs.declared.refusal.Fault.TheVariants.{RecordKind, CutOff}
+use Rattle.taskfile.specs.declared.format.Record as declared
 use Rattle.taskfile.specs.declared.format.Record.TheVariants.{End, Head, Step, Names}
-use Rattle.taskfile.specs.declared.format.Part.{Part}
 use Rattle.taskfile.specs.declared.format.Part.TheVariants.{Start, Goal, Needs, Sets, Clears}
 use Rattle.taskfile.specs.declared.kind.Kind.{Kind}
 use Rattle.taskfile.specs.declared.kind.Kind.TheVariants as kinds
 use Rattle.taskfile.specs.declared.kind.UnknownKind.{UnknownKind}
-use Rattle.taskfile.specs.Records.{Record, part_byte, little_endian, record_bytes, size_of, number_at, kind_of, body_length, record_of, found_as, found_at}
+use Rattle.taskfile.specs.Records.{Record, part_byte, little_endian, bytes_by, size_of, number_at, kind_of, body_length, record_of, found_as, found_at}
 use Rattle.taskfile.specs.Workers.{body_at}
 
-pub size_is : (r : Record) → length (record_bytes r) ≡ size_of r
-unfolding record_bytes little_endian
-size_is End = refl
-size_is (Head n m) = refl
-size_is (Step cost) = refl
-size_is (Names part f) = refl
-
--- a fact's record has 3 bytes whatever it is named for, as many as a file's has for any part
-pub fact_size : {P : Type 0} (what : P) (f : ℕ) → size_of (Names what f) ≡ 3
-fact_size what f = refl
-
-pub fact_length : {P : Type 0} (what : P) (part : Part) (f g : ℕ) → length (record_bytes (Names part g)) ≡ size_of (Names what f)
-unfolding record_bytes little_endian
-fact_length what part f g = refl
+-- whatever byte stands for what a fact is named for
+pub size_is : {P : Type 0} (kind : P → ℕ) (r : declared.Record P) → length (bytes_by kind r) ≡ size_of r
+unfolding bytes_by little_endian
+size_is kind End = refl
+size_is kind (Head n m) = refl
+size_is kind (Step cost) = refl
+size_is kind (Names what f) = refl
 
 -- what is refused is not found
 pub no_ok : {A X E : Type 0} {e : E} {x : X} → ◌≡◌ {A = Result X E} (Err e) (Ok x) → A

@@ -10,7 +10,7 @@ use Rattle.sets.specs.Tests.{Is}
 use Rattle.sets.proofs.Tests.{below_false, below_not}
 use Rattle.std.specs.Prelude.{Ok}
 use Rattle.task.specs.declared.refusal.Fault.TheVariants.{FileLength}
-use Rattle.taskfile.specs.Records.{Record, longest_file, record_bytes, file_bytes, file_records}
+use Rattle.taskfile.specs.Records.{Record, part_byte, longest_file, record_bytes, file_bytes, file_records}
 use Rattle.taskfile.specs.Sound.{Contents, Sound, records_of}
 use Rattle.taskfile.specs.Meaning.{contents_of, contents_in}
 use Rattle.taskfile.specs.Judging.{begin, file_verdict}
@@ -26,7 +26,7 @@ use Rattle.taskfile.proofs.Contents.{contents_back, fits_follow, follows_content
 most_records : (rs : List Record) → length rs ≤ length (file_bytes rs)
 unfolding file_bytes
 most_records [] = omega arith
-most_records (r ∷ rs) = omega (arith, most_records rs, length-append (record_bytes r) (file_bytes rs), size_is r, size_some r)
+most_records (r ∷ rs) = omega (arith, most_records rs, length-append (record_bytes r) (file_bytes rs), size_is part_byte r, size_some r)
 
 module _ {file : List ℕ} {c : Contents} (sound : Sound file c) where
   enough : length (records_of c) ≤ length file

@@ -40,19 +40,23 @@ unfoldable pub little_endian : ℕ → ℕ → List ℕ
 little_endian zero x = []
 little_endian (suc k) x = x % 256 ∷ little_endian k (x / 256)
 
--- the bytes of a record, and of a list of records
-unfoldable pub record_bytes : Record → List ℕ
-record_bytes End = 0 ∷ []
-record_bytes (Head n m) = 1 ∷ little_endian 2 n ++ little_endian 2 m
-record_bytes (Step cost) = 4 ∷ little_endian 4 cost
-record_bytes (Names part f) = part_byte part ∷ little_endian 2 f
+-- the bytes of a record, where `kind` gives the byte of what a fact is named for
+unfoldable pub bytes_by : {P : Type 0} → (P → ℕ) → declared.Record P → List ℕ
+bytes_by kind End = 0 ∷ []
+bytes_by kind (Head n m) = 1 ∷ little_endian 2 n ++ little_endian 2 m
+bytes_by kind (Step cost) = 4 ∷ little_endian 4 cost
+bytes_by kind (Names what f) = kind what ∷ little_endian 2 f
+
+-- those of a record as it stands in a file, and of a list of records
+abbrev pub record_bytes : Record → List ℕ
+record_bytes r = bytes_by part_byte r
 
 -- how many there are, whatever a fact is named for: `size_is` in proofs/Records.antt
 abbrev pub size_of : {P : Type 0} → declared.Record P → ℕ
 size_of End = 1
 size_of (Head n m) = 5
 size_of (Step cost) = 5
-size_of (Names part f) = 3
+size_of (Names what f) = 3
 
 unfoldable pub file_bytes : List Record → List ℕ
 file_bytes [] = []

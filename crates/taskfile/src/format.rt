@@ -26,8 +26,8 @@ impl Part {
 }
 
 /// A record of the file: the end; the head with the numbers of facts and steps; the next step with
-/// its cost; or a fact, with what it is named for: a part, as each record read from a file has, or
-/// anything else that stands for one, such as a byte.
+/// its cost; or a fact, with what it is named for. That is a part in each record that is read, and
+/// may be anything, a byte too, in one that a caller makes.
 #[derive(Clone, Copy, Debug, PartialEq, Eq, Drop)]
 pub enum Record<P = Part> {
     End,
